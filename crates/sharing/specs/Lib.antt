@@ -1,0 +1,9 @@
+pub mod Rule
+pub mod Asking
+pub mod TimeOrder
+pub mod ProRata
+pub mod Draw
+pub mod Making
+pub mod Turns
+pub mod Made
+pub mod Worked

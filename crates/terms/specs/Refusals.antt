@@ -1,0 +1,9 @@
+-- The number of each refusal.
+use Prim.Native.Nat.{ℕ}
+use Rattle.terms.specs.declared.refusal.Refusal.{Refusal}
+use Rattle.terms.specs.declared.refusal.Refusal.the-variants.{TooManyParties, BadParty, SpecialistNotDrawn}
+
+abbrev pub number-of : Refusal → ℕ
+number-of TooManyParties = 3
+number-of BadParty = 4
+number-of SpecialistNotDrawn = 5
