@@ -1,12 +1,12 @@
 // The draw rule, the makers' rule: making it, its turn, and how it shares.
 ghost use mathlib.Core.Path.{_≡_};
-ghost use mathlib.Core.Bool.{true, cond, _&&_};
+ghost use mathlib.Core.Bool.{true, cond};
 ghost use mathlib.Core.List.{[]};
 ghost use Prim.Native.Nat.{_<_};
 ghost use lib.ListN.{length, getD};
 ghost use Rattle.std.specs.Options.{Cases as BySome};
 ghost use Rattle.sharing.specs.Made.{drawn, shares-of, next-of};
-ghost use Rattle.sharing.specs.Making.{drawable, may-specialize};
+ghost use Rattle.sharing.specs.Making.{draws, may-specialize};
 use crate::asked::Asked;
 use crate::by_size::sum;
 use crate::draw_rule::DrawRule;
@@ -21,17 +21,14 @@ impl DrawRule {
     // The rule for a day's roster and its specialist, 0 for none, with the first at the turn. Where the roster or the specialist
     // would be refused, it is made from an empty roster and no specialist.
     pub fn new(parties: &[u32], specialist: u32) -> DrawRule
-        ensures roster { λ r. ⌜ drawn (r .roster) ≡ cond (drawable (now (parties .entry)) && may-specialize specialist (now (parties .entry))) (now (parties .entry)) [] ⌝ }
-        ensures specialist { λ r. ⌜ r .specialist ≡ cond (drawable (now (parties .entry)) && may-specialize specialist (now (parties .entry))) specialist 0 ⌝ }
+        ensures roster { λ r. ⌜ drawn (r .roster) ≡ cond (draws (now (parties .entry)) specialist) (now (parties .entry)) [] ⌝ }
+        ensures specialist { λ r. ⌜ r .specialist ≡ cond (draws (now (parties .entry)) specialist) specialist 0 ⌝ }
         ensures turn { λ r. ⌜ r .state .turn ≡ 0 ⌝ }
     {
-        let Ok(roster) = Roster::draw(parties) else {
-            return DrawRule::of(Roster::empty(), 0);
-        };
-        if specialist != 0 && !roster.has(specialist) {
-            return DrawRule::of(Roster::empty(), 0);
+        match Roster::draw_with(parties, specialist) {
+            Ok(roster) => DrawRule::of(roster, specialist),
+            Err(_) => DrawRule::of(Roster::empty(), 0),
         }
-        DrawRule::of(roster, specialist)
     }
 
     // The rule with the first at the turn.

@@ -7,8 +7,7 @@ ghost use lib.Dec.{ltb};
 ghost use lib.ListN.{length, getD};
 ghost use Rattle.std.specs.Results.{Cases as ByOk};
 ghost use Rattle.terms.specs.Numbers.{listed as stands-in, place as place-of};
-ghost use Rattle.terms.specs.declared.Refusal.the-variants.{TooManyParties, BadParty};
-ghost use Rattle.sharing.specs.Making.{drawable};
+ghost use Rattle.sharing.specs.Making.{drawable, draws, why-not};
 ghost use Rattle.sharing.specs.Made.{drawn};
 use crate::roster::Roster;
 use terms::MOST_PARTIES;
@@ -22,7 +21,7 @@ use terms::place;
 impl Roster {
     // The roster of these parties in this order; refused where they are more than 16, out of range or repeated.
     pub fn draw(parties: &[u32]) -> Result<Roster, Refusal>
-        ensures { λ r. ⌜ ByOk r (λ roster. (drawable (now (parties .entry)) ≡ true) × (drawn roster ≡ now (parties .entry))) (λ why. (drawable (now (parties .entry)) ≡ false) × (why ≡ cond (ltb 16 (length (now (parties .entry)))) TooManyParties BadParty)) ⌝ }
+        ensures { λ r. ⌜ ByOk r (λ roster. (drawable (now (parties .entry)) ≡ true) × (drawn roster ≡ now (parties .entry))) (λ why. (drawable (now (parties .entry)) ≡ false) × (why ≡ why-not (now (parties .entry)))) ⌝ }
     {
         let count = parties.len();
         if count > MOST_PARTIES {
@@ -37,6 +36,17 @@ impl Roster {
             parties: places,
             count,
         })
+    }
+
+    // The same for a day with a specialist, 0 for none; refused too where the specialist is not drawn.
+    pub fn draw_with(parties: &[u32], specialist: u32) -> Result<Roster, Refusal>
+        ensures { λ r. ⌜ ByOk r (λ roster. (draws (now (parties .entry)) specialist ≡ true) × (drawn roster ≡ now (parties .entry))) (λ why. (draws (now (parties .entry)) specialist ≡ false) × (why ≡ why-not (now (parties .entry)))) ⌝ }
+    {
+        let roster = Roster::draw(parties)?;
+        if specialist != 0 && !roster.has(specialist) {
+            return Err(Refusal::SpecialistNotDrawn);
+        }
+        Ok(roster)
     }
 
     // The roster that nobody is on.

@@ -1,13 +1,13 @@
 -- Rows of numbers, read from the front on: what one more number says.
 use Prim.Native.Nat.{ℕ, _+_, _-_, _<_, _≤_}
 use mathlib.Core.Path.{_≡_, refl, sym, _∙_, ap}
-use mathlib.Core.List.{List, [], _∷_}
+use mathlib.Core.List.{List, [], _∷_, _++_}
 use mathlib.Core.Bool.{true, false, not, cond, _&&_}
 use lib.Dec.{ltb, eqb}
 use lib.ListN.{length, getD, take, drop}
 use native.Mathlib.Omega.{arith}
 use Rattle.std.proofs.shelf.Lists.{at-drop-more, at-drop-all, take-rest}
-use Rattle.std.proofs.shelf.Tests.{eq-eqb, ne-eqb}
+use Rattle.std.proofs.shelf.Tests.{and-parts, not-true, eq-eqb, ne-eqb}
 use Rattle.std.proofs.shelf.Ways.{tells}
 use Rattle.std.specs.Iters.{folded}
 use Rattle.terms.specs.Numbers.{sum, listed, distinct, place, within, all-within}
@@ -61,6 +61,23 @@ pub repeats-on : (xs : List ℕ) (i : ℕ) → i < length xs → listed (getD xs
 repeats-on xs i lt e =
     let here : distinct (drop i xs) ≡ (not (listed (getD xs i 0) (drop (i + 1) xs)) && distinct (drop (i + 1) xs)) = at-drop-more distinct xs i 0 lt in
     here ∙ rw (rw take-rest at e)
+
+-- one more number at the end
+pub distinct-push : (xs : List ℕ) (x : ℕ) → distinct xs ≡ true → listed x xs ≡ false → distinct (xs ++ x ∷ []) ≡ true
+distinct-push [] x d n = refl
+distinct-push (y ∷ ys) x d n =
+    let w = and-parts (not (listed y ys)) (distinct ys) d in
+    let more = distinct-push ys x (w .1) (grind arith) in
+    let here : listed y (ys ++ x ∷ []) ≡ false = listed-push ys x y (not-true (listed y ys) (w .0)) (grind (arith, tells)) in rw (here, more)
+  where
+    listed-push : (zs : List ℕ) (a b : ℕ) → listed b zs ≡ false → eqb b a ≡ false → listed b (zs ++ a ∷ []) ≡ false
+    listed-push [] a b n e = rw e
+    listed-push (z ∷ zs) a b n e = let more = listed-push zs a b (grind arith) e in grind arith
+
+pub ranged-push : (most : ℕ) (xs : List ℕ) (x : ℕ) → all-within most xs ≡ true → within most x ≡ true → all-within most (xs ++ x ∷ []) ≡ true
+ranged-push most [] x d w = rw w
+ranged-push most (y ∷ ys) x d w =
+    let v = and-parts (within most y) (all-within most ys) d in rw (v .0) (ranged-push most ys x (v .1) w)
 
 -- ---- sums ----
 
