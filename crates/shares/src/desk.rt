@@ -45,8 +45,8 @@ fn print_class<W: Write>(
 fn draw_fault(why: Refusal) -> Fault {
     match why {
         Refusal::TooManyParties => Fault::Parties,
-        Refusal::BadParty => Fault::Party,
         Refusal::SpecialistNotDrawn => Fault::Specialist,
+        _ => Fault::Party,
     }
 }
 

@@ -59,25 +59,32 @@ impl Roster {
         }
     }
 
+    // The parties in drawn order.
+    pub fn parties(&self) -> &[u32]
+        ensures { λ r. ⌜ now r ≡ drawn (now (self .entry)) ⌝ }
+    {
+        &self.parties[0..self.count]
+    }
+
     // How many parties are drawn.
     pub fn len(&self) -> usize
         ensures { λ r. ⌜ r ≡ length (drawn (now (self .entry))) ⌝ }
     {
-        self.count
+        self.parties().len()
     }
 
     // The party's place in the draw, from 0; the roster's length where it is not drawn.
     pub fn place(&self, party: u32) -> usize
         ensures { λ r. ⌜ r ≡ place-of (drawn (now (self .entry))) party ⌝ }
     {
-        place(&self.parties[0..self.count], party)
+        place(self.parties(), party)
     }
 
     // Whether the party is drawn.
     pub fn has(&self, party: u32) -> bool
         ensures { λ r. ⌜ r ≡ stands-in party (drawn (now (self .entry))) ⌝ }
     {
-        listed(party, &self.parties[0..self.count])
+        listed(party, self.parties())
     }
 
     // The party at a place.

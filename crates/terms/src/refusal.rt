@@ -10,6 +10,10 @@ pub enum Refusal {
     BadParty,
     // a specialist that is neither 0 nor drawn
     SpecialistNotDrawn,
+    // a block of the wrong length: it has 130 numbers, or 34 for makers
+    WrongLength,
+    // a row of numbers that is not a written block
+    NotWritten,
 }
 
 impl Refusal {
@@ -21,6 +25,8 @@ impl Refusal {
             Refusal::TooManyParties => 3,
             Refusal::BadParty => 4,
             Refusal::SpecialistNotDrawn => 5,
+            Refusal::WrongLength => 16,
+            Refusal::NotWritten => 17,
         }
     }
 }
