@@ -9,6 +9,8 @@ mod leftovers;
 mod pro_rata;
 mod roster;
 mod rule;
+#[cfg(test)]
+mod tests;
 mod time_order;
 mod worked;
 
