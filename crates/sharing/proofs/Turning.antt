@@ -13,6 +13,7 @@ use Rattle.std.proofs.shelf.Tests.{cases-bool, eq-eqb, lt-ltb, ltb-true, ltb-fa
 use Rattle.std.proofs.shelf.Ways.{eqb-tells, tells}
 use Rattle.terms.specs.Numbers.{listed, place}
 use Rattle.sharing.specs.Draw.{unspent, among, outside, round, by-turn, takers, queue, with-leftovers, behind, turn-after}
+use Rattle.sharing.specs.Placed.{Turned}
 use Rattle.sharing.proofs.Counts.{count, Single, listed-tells, single-rest, single-first, count-outside, count-round}
 use Rattle.sharing.proofs.Handing.{moved, hand-out, hand-out-is}
 use Rattle.sharing.proofs.Remaining.{count-unspent}
@@ -114,15 +115,10 @@ moved-on roster turn [] = refl
 moved-on roster turn (x ∷ xs) = moved-on roster (behind roster x) xs
 
 -- the round is done
-pub record Turned (roster holders sizes : List ℕ) (start number : ℕ) (shares : List ℕ) (left turn : ℕ) (given : List ℕ) : Type 0 where
-  pub left-is : left ≡ number - length (takers roster start holders sizes shares)
-  pub turn-is : turn ≡ turn-after roster start (take number (takers roster start holders sizes shares))
-  pub shares-are : given ≡ with-leftovers (take number (takers roster start holders sizes shares)) holders shares
-
 pub turned : (roster holders sizes : List ℕ) (start step number : ℕ) (shares : List ℕ) (left turn : ℕ) (given : List ℕ) → Single roster → length roster ≤ step →
     length shares ≡ length holders →
     hand-out (on roster) holders sizes (drop step (round start roster)) left turn given ≡ hand-out (on roster) holders sizes (round start roster) number start shares →
-    Turned roster holders sizes start number shares left turn given
+    Turned roster start number holders sizes shares left turn given
 turned roster holders sizes start step number shares left turn given o l e h =
     let whole : length (round start roster) ≤ step =
     let a = length-append (drop start roster) (take start roster) in let b = length-drop start roster in let c = length-take start roster in omega arith in

@@ -3,6 +3,7 @@ pub mod Asking
 pub mod TimeOrder
 pub mod ProRata
 pub mod Draw
+pub mod Placed
 pub mod Making
 pub mod Turns
 pub mod Made

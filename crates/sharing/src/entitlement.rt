@@ -1,13 +1,13 @@
 // The draw rule before leftovers: who is entitled, to what, and the shares that follow.
 ghost use mathlib.Core.Path.{_≡_};
-ghost use mathlib.Core.Bool.{true, false};
-ghost use mathlib.Core.Logic.{_≢_};
+ghost use mathlib.Core.Bool.{false};
 ghost use Prim.Native.Nat.{_<_};
 ghost use lib.ListN.{length};
 ghost use Rattle.std.specs.Options.{Cases as BySome};
-ghost use Rattle.terms.specs.Numbers.{sum as added-up, place as place-of};
+ghost use Rattle.terms.specs.Numbers.{sum as added-up};
 ghost use Rattle.sharing.specs.Asking.{inputs-of};
 ghost use Rattle.sharing.specs.Draw.{base-shares, entitled, entitlement as entitled-to, percentage as percentage-of, prevails, stands};
+ghost use Rattle.sharing.specs.Placed.{Entitled-at, Is-place, Prevails-at, Stands-at};
 ghost use Rattle.sharing.specs.Rule.{Valid};
 use crate::asked::Asked;
 use crate::by_size::part;
@@ -31,7 +31,7 @@ fn percentage(rivals: usize, arriving: u32, directed: bool, specialist: bool) ->
 
 // Where a party stands; 0 is no party.
 fn standing_place(party: u32, holders: &[u32]) -> Option<usize>
-    ensures { λ r. ⌜ BySome r (stands party (now (holders .entry)) ≡ false) (λ k. (stands party (now (holders .entry)) ≡ true) × (k ≡ place-of (now (holders .entry)) party) × (k < length (now (holders .entry)))) ⌝ }
+    ensures { λ r. ⌜ BySome r (stands party (now (holders .entry)) ≡ false) (λ at. Stands-at at party (now (holders .entry))) ⌝ }
 {
     let at = place(holders, party);
     if party != 0 && at < holders.len() {
@@ -43,7 +43,7 @@ fn standing_place(party: u32, holders: &[u32]) -> Option<usize>
 
 // Where the party stands that may be entitled: the directed one, or else the specialist.
 fn entitled_place(specialist: u32, asked: Asked<'_>) -> Option<usize>
-    ensures { λ r. ⌜ BySome r (entitled specialist (inputs-of (asked .entry)) ≡ 0) (λ k. (entitled specialist (inputs-of (asked .entry)) ≢ 0) × (k ≡ place-of (now (asked .entry .holders)) (entitled specialist (inputs-of (asked .entry)))) × (k < length (now (asked .entry .holders)))) ⌝ }
+    ensures { λ r. ⌜ BySome r (entitled specialist (inputs-of (asked .entry)) ≡ 0) (λ at. Entitled-at at specialist (inputs-of (asked .entry))) ⌝ }
 {
     match standing_place(asked.directed, asked.holders) {
         Some(at) => Some(at),
@@ -54,7 +54,7 @@ fn entitled_place(specialist: u32, asked: Asked<'_>) -> Option<usize>
 // What the party at a place is entitled to: its percentage of the number, cut to its size.
 fn entitlement_at(at: usize, specialist: u32, asked: Asked<'_>) -> u32
     requires valid { ⌜ Valid (inputs-of asked) ⌝ }
-    requires at { ⌜ at ≡ place-of (now (asked .holders)) (entitled specialist (inputs-of asked)) ⌝ ∗ ⌜ at < length (now (asked .holders)) ⌝ }
+    requires at { ⌜ Is-place at (entitled specialist (inputs-of asked)) (now (asked .holders)) ⌝ }
     ensures { λ r. ⌜ r ≡ entitled-to specialist (entitled specialist (inputs-of (asked .entry))) (inputs-of (asked .entry)) ⌝ }
 {
     let holder = asked.holders[at];
@@ -78,7 +78,7 @@ struct Entitlement {
 fn prevailing(specialist: u32, total: u32, asked: Asked<'_>) -> Option<Entitlement>
     requires valid { ⌜ Valid (inputs-of asked) ⌝ }
     requires short { ⌜ total ≡ added-up (now (asked .sizes)) ⌝ ∗ ⌜ asked .number < total ⌝ }
-    ensures { λ r. ⌜ BySome r (prevails specialist (inputs-of (asked .entry)) ≡ false) (λ e. (prevails specialist (inputs-of (asked .entry)) ≡ true) × (e .at ≡ place-of (now (asked .entry .holders)) (entitled specialist (inputs-of (asked .entry)))) × (e .at < length (now (asked .entry .holders))) × (e .takes ≡ entitled-to specialist (entitled specialist (inputs-of (asked .entry))) (inputs-of (asked .entry)))) ⌝ }
+    ensures { λ r. ⌜ BySome r (prevails specialist (inputs-of (asked .entry)) ≡ false) (λ e. Prevails-at (e .at) (e .takes) specialist (inputs-of (asked .entry))) ⌝ }
 {
     let at = entitled_place(specialist, asked)?;
     let takes = entitlement_at(at, specialist, asked);

@@ -2,19 +2,19 @@
 ghost use mathlib.Core.Path.{_≡_};
 ghost use mathlib.Core.Bool.{true, cond};
 ghost use mathlib.Core.List.{[], _∷_};
-ghost use Prim.Native.Nat.{_-_};
-ghost use lib.ListN.{length, take};
+ghost use lib.ListN.{take};
 ghost use Rattle.terms.specs.Numbers.{distinct as no-repeats, listed as stands-in};
-ghost use Rattle.sharing.specs.Draw.{outside, takers, turn-after, unspent, with-leftovers};
+ghost use Rattle.sharing.specs.Draw.{outside, unspent, with-leftovers};
 ghost use Rattle.sharing.specs.Made.{drawn};
 ghost use Rattle.sharing.specs.Making.{turns-at};
+ghost use Rattle.sharing.specs.Placed.{Paired, Turned};
 use crate::draw_rule::DrawState;
 use crate::roster::Roster;
 use terms::place;
 
 // Gives a party one contract more if it stands with size unspent, and says whether it did.
 fn give_one(party: u32, holders: &[u32], sizes: &[u32], shares: &mut [u32]) -> bool
-    requires paired { ⌜ length (now sizes) ≡ length (now holders) ⌝ ∗ ⌜ length (now shares) ≡ length (now sizes) ⌝ }
+    requires paired { ⌜ Paired (now holders) (now sizes) (now shares) ⌝ }
     requires once { ⌜ no-repeats (now holders) ≡ true ⌝ }
     ensures gave { λ r. ⌜ r ≡ stands-in party (unspent (now (holders .entry)) (now (sizes .entry)) (now (shares .entry))) ⌝ }
     ensures shares { λ r. ⌜ now (shares .exit) ≡ cond r (with-leftovers (party ∷ []) (now (holders .entry)) (now (shares .entry))) (now (shares .entry)) ⌝ }
@@ -37,11 +37,9 @@ pub(crate) fn give_by_turn(
     sizes: &[u32],
     shares: &mut [u32],
 ) -> u32
-    requires paired { ⌜ length (now sizes) ≡ length (now holders) ⌝ ∗ ⌜ length (now shares) ≡ length (now sizes) ⌝ }
+    requires paired { ⌜ Paired (now holders) (now sizes) (now shares) ⌝ }
     requires once { ⌜ no-repeats (now holders) ≡ true ⌝ ∗ ⌜ turns-at (now state .turn) (drawn (now roster)) ≡ true ⌝ }
-    ensures left { λ r. ⌜ r ≡ left - length (takers (drawn (now (roster .entry))) (now (state .entry) .turn) (now (holders .entry)) (now (sizes .entry)) (now (shares .entry))) ⌝ }
-    ensures turn { λ _. ⌜ now (state .exit) .turn ≡ turn-after (drawn (now (roster .entry))) (now (state .entry) .turn) (take left (takers (drawn (now (roster .entry))) (now (state .entry) .turn) (now (holders .entry)) (now (sizes .entry)) (now (shares .entry)))) ⌝ }
-    ensures shares { λ _. ⌜ now (shares .exit) ≡ with-leftovers (take left (takers (drawn (now (roster .entry))) (now (state .entry) .turn) (now (holders .entry)) (now (sizes .entry)) (now (shares .entry)))) (now (holders .entry)) (now (shares .entry)) ⌝ }
+    ensures { λ r. ⌜ Turned (drawn (now (roster .entry))) (now (state .entry) .turn) left (now (holders .entry)) (now (sizes .entry)) (now (shares .entry)) r (now (state .exit) .turn) (now (shares .exit)) ⌝ }
 {
     let mut left = left;
     let start = state.turn;
@@ -63,7 +61,7 @@ pub(crate) fn give_outside(
     sizes: &[u32],
     shares: &mut [u32],
 )
-    requires paired { ⌜ length (now sizes) ≡ length (now holders) ⌝ ∗ ⌜ length (now shares) ≡ length (now sizes) ⌝ }
+    requires paired { ⌜ Paired (now holders) (now sizes) (now shares) ⌝ }
     requires once { ⌜ no-repeats (now holders) ≡ true ⌝ }
     ensures { λ _. ⌜ now (shares .exit) ≡ with-leftovers (take left (outside (unspent (now (holders .entry)) (now (sizes .entry)) (now (shares .entry))) (drawn (now (roster .entry))))) (now (holders .entry)) (now (shares .entry)) ⌝ }
 {

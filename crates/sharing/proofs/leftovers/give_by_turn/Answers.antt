@@ -40,6 +40,5 @@ pub returns : need.returns
 returns c =
     let o = distinct-single (drawn (c .args .roster .now)) (roster-once (c .args .roster .now)) in
     let n : length (drawn (c .args .roster .now)) ≡ c .args .roster .now .count = search needs in
-    let t = turned (drawn (c .args .roster .now)) (c .args .holders .now) (c .args .sizes .now) (c .args .state .now .turn) (c .loop-step .step) (c .args .left) (c .args .shares .now)
-    (c .loop-step .left) (c .loop-step .state .turn) (c .loop-step .shares) o (omega arith) (c .pre .paired .1 ∙ c .pre .paired .0) (c .loop-step .inv) in
-    record { left = t .left-is; turn = t .turn-is; shares = t .shares-are }
+    turned (drawn (c .args .roster .now)) (c .args .holders .now) (c .args .sizes .now) (c .args .state .now .turn) (c .loop-step .step) (c .args .left) (c .args .shares .now)
+    (c .loop-step .left) (c .loop-step .state .turn) (c .loop-step .shares) o (omega arith) (c .pre .paired .1 ∙ c .pre .paired .0) (c .loop-step .inv)

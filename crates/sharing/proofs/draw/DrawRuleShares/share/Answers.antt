@@ -43,7 +43,7 @@ ghost-self c = (
     c .args .self .now .sound .0,
     turned-turn (drawn (c .args .self .now .roster)) (c .args .self .now .state .turn) (c .give-by-turn-left .last .state .turn)
         (take (c .args .asked .number - c .sum .result) (takers (drawn (c .args .self .now .roster)) (c .args .self .now .state .turn) (c .args .asked .holders .now) (c .args .asked .sizes .now) (c .share-base .last .out)))
-        (c .give-by-turn-left .ensures .turn) (c .args .self .now .sound .1),
+        (c .give-by-turn-left .ensures .turn-is) (c .args .self .now .sound .1),
   ),
   tt,
 )
@@ -56,7 +56,7 @@ returns c =
     record {
       shares = drawn-shares (drawn (c .args .self .now .roster)) (c .args .self .now .specialist) (c .args .self .now .state .turn) (inputs-of (c .args .asked)) (c .share-base .last .out) _
           (c .give-by-turn-left .result) (c .give-by-turn-left .last .shares) (c .give-outside .last .shares) short (c .share-base .ensures) left
-          (c .give-by-turn-left .ensures .left) (c .give-by-turn-left .ensures .shares) (c .give-outside .ensures);
+          (c .give-by-turn-left .ensures .left-is) (c .give-by-turn-left .ensures .shares-are) (c .give-outside .ensures);
       next = same-rule (c .args .self .now .roster) (c .args .self .now .specialist) (c .give-by-turn-left .last .state) _ _ _
-          (drawn-turn (c .args .self .now) (inputs-of (c .args .asked)) (c .share-base .last .out) _ (c .give-by-turn-left .last .state .turn) short (c .share-base .ensures) left (c .give-by-turn-left .ensures .turn));
+          (drawn-turn (c .args .self .now) (inputs-of (c .args .asked)) (c .share-base .last .out) _ (c .give-by-turn-left .last .state .turn) short (c .share-base .ensures) left (c .give-by-turn-left .ensures .turn-is));
     }
