@@ -1,4 +1,6 @@
 // The block format: rows of numbers that show who was filled in a trade, written one fill at a time and read again.
+#![tactic(auto)]
+
 mod fill;
 mod laws;
 mod layout;

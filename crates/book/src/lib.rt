@@ -1,4 +1,6 @@
 // The sharing book: one side of one options series, and the calls that change it.
+#![tactic(auto)]
+
 mod calls;
 mod changes;
 mod checks;

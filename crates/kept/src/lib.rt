@@ -1,4 +1,6 @@
 // Ranked records, and the list that keeps them best first in memory that its caller lends.
+#![tactic(auto)]
+
 mod laws;
 mod list;
 mod orders;

@@ -1,4 +1,6 @@
 // The laws of a sharing book's day. Each function carries one in its contract; none computes anything.
+#![tactic(auto)]
+
 ghost use Rattle.model.specs.Trading.{rule};
 ghost use Rattle.laws.specs.Law.{LawOfEveryDay, RecordsLaw};
 ghost use Rattle.laws.specs.Telling.{Telling};

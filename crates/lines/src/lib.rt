@@ -1,4 +1,6 @@
 // Lines of text: reading them one by one, their fields, and the numbers that fields spell.
+#![tactic(auto)]
+
 mod fields;
 mod numeral;
 mod reading;

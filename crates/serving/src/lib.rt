@@ -1,4 +1,6 @@
 // Serving one class at one price: its rule is asked, its shares are entered as fills, and its records are lowered.
+#![tactic(auto)]
+
 mod class;
 mod fills;
 mod gather;

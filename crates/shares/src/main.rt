@@ -1,4 +1,6 @@
 // Shares one order at one price among customers, makers and firms, case by case.
+#![tactic(auto)]
+
 mod command;
 mod desk;
 mod entries;

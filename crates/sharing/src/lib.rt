@@ -1,4 +1,6 @@
 // Sharing rules: how the contracts that arrive at one price are shared among the entries that stand there.
+#![tactic(auto)]
+
 mod asked;
 mod by_size;
 mod draw;

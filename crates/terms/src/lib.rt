@@ -1,5 +1,7 @@
 // What every other crate speaks in: the limits, sides and classes of a book, its calls and their answers, the refusals with their
 // numbers, and tests on rows of numbers.
+#![tactic(auto)]
+
 mod calls;
 mod classes;
 mod limits;

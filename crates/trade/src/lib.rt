@@ -1,4 +1,6 @@
 // A Trade: an incoming order against the three tables of a book, price by price.
+#![tactic(auto)]
+
 mod compaction;
 mod incoming;
 mod level;

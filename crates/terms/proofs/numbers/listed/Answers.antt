@@ -1,4 +1,3 @@
-use Rattle.std.proofs.Common.{◌∙◌}
 use Rattle.terms.proofs.Rows.{listed_place}
 use Rattle.terms.proofs.numbers.listed.Goals as goal
 

@@ -1,5 +1,5 @@
 use Rattle.std.proofs.Common.{arith}
-use Rattle.terms.proofs.Rows.{place_here, place_on, place_end, place_le}
+use Rattle.terms.proofs.Rows.{place_here, place_on, place_end}
 use Rattle.terms.proofs.numbers.place.Goals as goal
 
 pub returns-then-m-n : goal.returns-then-m-n
