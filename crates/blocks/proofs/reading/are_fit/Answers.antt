@@ -2,12 +2,12 @@ use Rattle.std.proofs.Common.{sym, ◌∙◌}
 use Rattle.blocks.proofs.Fitting.{fit_beside}
 use Rattle.blocks.proofs.reading.are_fit.Goals as goal
 
-pub returns-then-are-holders : goal.returns-then-are-holders
-returns-then-are-holders c =
+pub returns-then-are_holders : goal.returns-then-are_holders
+returns-then-are_holders c =
     let same = fit_beside c.args.layout c.args.holders.now c.args.contracts.now c.args.total c.requires.0 c.requires.1 in
-    c.are-contracts.ensures ∙ sym (same ∙ rw (sym c.if-are-holders.ensures))
+    c.are_contracts.ensures ∙ sym (same ∙ rw (sym c.if-are_holders.ensures))
 
-pub returns-else-are-holders : goal.returns-else-are-holders
-returns-else-are-holders c =
+pub returns-else-are_holders : goal.returns-else-are_holders
+returns-else-are_holders c =
     let same = fit_beside c.args.layout c.args.holders.now c.args.contracts.now c.args.total c.requires.0 c.requires.1 in
-    c.if-are-holders.false ∙ sym (same ∙ rw (sym c.if-are-holders.ensures))
+    c.if-are_holders.false ∙ sym (same ∙ rw (sym c.if-are_holders.ensures))

@@ -5,20 +5,20 @@ use Rattle.blocks.proofs.Fitting.{and_on, and_off}
 use Rattle.blocks.proofs.Checking.{cut_first_holders, takes_test}
 use Rattle.blocks.proofs.writing.takes.Goals as goal
 
-pub returns-then-takes-holder : goal.returns-then-takes-holder
-returns-then-takes-holder c =
+pub returns-then-takes_holder : goal.returns-then-takes_holder
+returns-then-takes_holder c =
     let b = c.args.block.now in
     let l = c.args.layout in
-    let w = sym c.if-not-is-written.ensures in
-    let test = takes_test l b _ c.args.fill c.takes-holder.result c.requires w
-    (cut_first_holders b (places_of l) (get_or b 0 0) (written_parts l b w).0) c.takes-holder.ensures in
-    c.takes-contracts.ensures ∙ and_on c.takes-holder.result _ _ test (sym c.if-takes-holder.true)
+    let w = sym c.if-not-is_written.ensures in
+    let test = takes_test l b _ c.args.fill c.takes_holder.result c.requires w
+    (cut_first_holders b (places_of l) (get_or b 0 0) (written_parts l b w).0) c.takes_holder.ensures in
+    c.takes_contracts.ensures ∙ and_on c.takes_holder.result _ _ test (sym c.if-takes_holder.true)
 
-pub returns-else-takes-holder : goal.returns-else-takes-holder
-returns-else-takes-holder c =
+pub returns-else-takes_holder : goal.returns-else-takes_holder
+returns-else-takes_holder c =
     let b = c.args.block.now in
     let l = c.args.layout in
-    let w = sym c.if-not-is-written.ensures in
-    let test = takes_test l b _ c.args.fill c.takes-holder.result c.requires w
-    (cut_first_holders b (places_of l) (get_or b 0 0) (written_parts l b w).0) c.takes-holder.ensures in
-    c.if-takes-holder.false ∙ and_off c.takes-holder.result _ _ test (sym c.if-takes-holder.false)
+    let w = sym c.if-not-is_written.ensures in
+    let test = takes_test l b _ c.args.fill c.takes_holder.result c.requires w
+    (cut_first_holders b (places_of l) (get_or b 0 0) (written_parts l b w).0) c.takes_holder.ensures in
+    c.if-takes_holder.false ∙ and_off c.takes_holder.result _ _ test (sym c.if-takes_holder.false)

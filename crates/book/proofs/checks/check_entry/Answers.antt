@@ -6,10 +6,10 @@ use Rattle.book.proofs.Checking.{stopped}
 use Rattle.book.specs.Checks.{order_checks}
 use Rattle.book.proofs.checks.check_entry.Goals as goal
 
-pub returns-in-err-kind : goal.returns-in-err-kind
-returns-in-err-kind c =
+pub returns-in_err-kind : goal.returns-in_err-kind
+returns-in_err-kind c =
     record {
-      refused = stopped c.from-residual.result c.in-err-kind.field-0.0 (order_checks c.args.class c.args.number) (9 if not (within 999999 c.args.price) ∷ 10 if not (within 99999 c.args.size) ∷ [])
-          c.from-residual.ensures.1 c.in-err-kind.ensures.refused;
-      class = IfOk-from_err c.from-residual.result _ c.from-residual.ensures.0;
+      refused = stopped c.from_residual.result c.in_err-kind.field-0.0 (order_checks c.args.class c.args.number) (9 if not (within 999999 c.args.price) ∷ 10 if not (within 99999 c.args.size) ∷ [])
+          c.from_residual.ensures.1 c.in_err-kind.ensures.refused;
+      class = IfOk-from_err c.from_residual.result _ c.from_residual.ensures.0;
     }

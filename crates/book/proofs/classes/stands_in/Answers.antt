@@ -8,5 +8,5 @@ use Rattle.book.proofs.classes.stands_in.Goals as goal
 
 pub returns : goal.returns
 returns c =
-    c.is-some.ensures ∙ ap is_some c.find.ensures ∙ some_has order_shown c.args.number (standing c.orders_in.result.now)
+    c.is_some.ensures ∙ ap is_some c.find.ensures ∙ some_has order_shown c.args.number (standing c.orders_in.result.now)
     ∙ ap (λ l. has c.args.number (orders_shown l)) c.orders_in.ensures

@@ -7,8 +7,8 @@ use Rattle.book.proofs.sums.sum_of.Goals as goal
 pub loop-standing-init : goal.loop-standing-init
 loop-standing-init g c = omega arith
 
-pub overflow-add-sum : goal.overflow-add-sum
-overflow-add-sum g c =
+pub overflow_add-sum : goal.overflow_add-sum
+overflow_add-sum g c =
     let xs = c.args.records.now in
     let shown = g.R.Standing.shown in
     let i = c.loop-standing.standing-index in

@@ -9,6 +9,6 @@ returns g c =
     record {
       gone = stands_at c.args.slots.now c.args.count c.args.place (omega arith) c.index-slots-place.result (omega arith) c.index-slots-place.is;
       slots =
-          taken_up c.args.slots.now c.shift-up.new.slots c.args.place c.args.count c.blank.result (omega arith) (omega arith) c.shift-up.ensures
+          taken_up c.args.slots.now c.shift_up.new.slots c.args.place c.args.count c.blank.result (omega arith) (omega arith) c.shift_up.ensures
           ∙ ap (λ b. remove (take c.args.count c.args.slots.now) c.args.place ++ b ∷ drop c.args.count c.args.slots.now) c.blank.ensures;
     }

@@ -9,11 +9,11 @@ returns-then-b-lt48 c =
     no_number c.args.text.now
     (sym c.loop-b.invariant.0 ∙ digits_stop c.args.text.now c.loop-b.b-index c.loop-b-test.true c.then-b-lt48.either)
 
-pub overflow-mul-value : goal.overflow-mul-value
-overflow-mul-value c = omega (arith, short c.loop-b.value c.loop-b.b-index c.loop-b.invariant.2 (omega arith))
+pub overflow_mul-value : goal.overflow_mul-value
+overflow_mul-value c = omega (arith, short c.loop-b.value c.loop-b.b-index c.loop-b.invariant.2 (omega arith))
 
-pub overflow-add-value : goal.overflow-add-value
-overflow-add-value c = omega (arith, short c.loop-b.value c.loop-b.b-index c.loop-b.invariant.2 (omega arith))
+pub overflow_add-value : goal.overflow_add-value
+overflow_add-value c = omega (arith, short c.loop-b.value c.loop-b.b-index c.loop-b.invariant.2 (omega arith))
 
 pub loop-b-preserved : goal.loop-b-preserved
 loop-b-preserved c = (
@@ -26,4 +26,4 @@ pub returns : goal.returns
 returns c =
     let digits = sym (at_drop_all spelled.digits c.args.text.now c.loop-b.b-index c.loop-b-test.false) ∙ c.loop-b.invariant.0 in
     let value = sym (at_drop_all (spelled.value c.loop-b.value) c.args.text.now c.loop-b.b-index c.loop-b-test.false) ∙ c.loop-b.invariant.1 in
-    a_number c.args.text.now c.loop-b.value (some_bytes _ c.if-is-empty.ensures) c.if-text-gt9.false c.if-text-gt1.either (sym digits) value
+    a_number c.args.text.now c.loop-b.value (some_bytes _ c.if-is_empty.ensures) c.if-text-gt9.false c.if-text-gt1.either (sym digits) value

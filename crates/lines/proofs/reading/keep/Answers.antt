@@ -8,5 +8,5 @@ returns c =
     let n : c.min-n.result ≡ min (c.args.most - length (vec_items c.args.line.now)) (length c.args.bytes.now) = omega (arith, c.min-n.ensures, c.len.ensures) in
     record {
       within = search rules;
-      kept = c.extend-from-slice.ensures.items ∙ ap (λ zs. cond (is_ok c.extend-from-slice.result) zs (vec_items c.args.line.now)) (kept_first c.args.most _ (vec_items c.args.line.now) c.args.bytes.now (omega arith) (omega arith));
+      kept = c.extend_from_slice.ensures.items ∙ ap (λ zs. cond (is_ok c.extend_from_slice.result) zs (vec_items c.args.line.now)) (kept_first c.args.most _ (vec_items c.args.line.now) c.args.bytes.now (omega arith) (omega arith));
     }

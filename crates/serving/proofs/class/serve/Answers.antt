@@ -14,13 +14,13 @@ use Rattle.serving.proofs.Ready.{servable_after}
 use Rattle.serving.proofs.Stretches.{shown_stretch}
 use Rattle.serving.proofs.class.serve.Goals as goal
 
-pub serve-stretch-left-requires : goal.serve-stretch-left-requires
-serve-stretch-left-requires g c =
+pub serve_stretch-left-requires : goal.serve_stretch-left-requires
+serve_stretch-left-requires g c =
     let v = c.requires.table in
     let p = c.args.portion in
     let xs = c.args.records.now in
     let from = c.args.from in
-    let to = c.stretch-end-to.result in
+    let to = c.stretch_end-to.result in
     let u = length-take (to - from) (drop from xs) in
     let u' = length-drop from xs in
     let few = v.room.few in
@@ -36,11 +36,11 @@ returns g c =
     let p = c.args.portion in
     let xs = c.args.records.now in
     let from = c.args.from in
-    let to = c.stretch-end-to.result in
+    let to = c.stretch_end-to.result in
     let st = take (to - from) (drop from xs) in
-    let left-call = c.serve-stretch-left in
+    let left-call = c.serve_stretch-left in
     let shares : List Interest → List ℕ = λ t. g.S.SharingRule.shares c.args.rule.now (asked_of t p) in
-    let e : map g.R.Standing.shown st ≡ here g.R.Standing.shown from c.args.price xs = shown_stretch g.R.Standing.shown xs from to c.args.price c.stretch-end-to.ensures.end in
+    let e : map g.R.Standing.shown st ≡ here g.R.Standing.shown from c.args.price xs = shown_stretch g.R.Standing.shown xs from to c.args.price c.stretch_end-to.ensures.end in
     let le : from ≤ to = omega arith in
     let ok = valid_stretch g.R.Standing.shown xs from to c.args.places p c.args.block.now v le c.requires.portion.0 c.requires.portion.1 in
     let fair = g.met.S.SharingRule.keeps.fair c.args.rule.now (asked_of (map g.R.Standing.shown st) p) ok in
@@ -57,12 +57,12 @@ returns g c =
     let block : left-call.new.block ≡ all_filled_in c.args.places (fills t (shares t)) c.args.block.now =
     left-call.ensures.block ∙ ap (λ z. all_filled_in c.args.places (fills z (shares z)) c.args.block.now) e in
     record {
-      to = c.stretch-end-to.ensures.end;
+      to = c.stretch_end-to.ensures.end;
       left = left;
       rule = left-call.ensures.rule ∙ ap (λ z. g.S.SharingRule.next c.args.rule.now (asked_of z p)) e;
       records = recs;
       rest = rest;
       block = block;
       ready = servable_after g.R.Standing.shown g.R.Standing.lower g.met.R.Standing.shows xs _ from to c.args.price c.args.places p.number left-call.result (shares t) c.args.block.now left-call.new.block
-          v c.stretch-end-to.ensures.end recs rest block left sum_here;
+          v c.stretch_end-to.ensures.end recs rest block left sum_here;
     }

@@ -16,8 +16,8 @@ share-requires g c = (
 )
 
 -- what the rule gave, as the rule has it, and that it is fair
-pub enter-fills-left-requires : goal.enter-fills-left-requires
-enter-fills-left-requires g c =
+pub enter_fills-left-requires : goal.enter_fills-left-requires
+enter_fills-left-requires g c =
     let t = map g.R.Standing.shown c.args.records.now in
     let p = c.args.portion in
     let e = c.share.ensures.shares ∙ same_asked (g.S.SharingRule.shares c.args.rule.now) t c.gather.new.holders c.gather.new.sizes p c.gather.ensures.holders c.gather.ensures.sizes in
@@ -25,8 +25,8 @@ enter-fills-left-requires g c =
     let n = within_length g.R.Standing.shown c.args.records.now c.share.new.out f.inside in
     record { shares = (n, omega (arith, f.adds_up)); room = c.requires.room }
 
-pub lower-each-requires : goal.lower-each-requires
-lower-each-requires g c =
+pub lower_each-requires : goal.lower_each-requires
+lower_each-requires g c =
     let t = map g.R.Standing.shown c.args.records.now in
     let p = c.args.portion in
     let e = c.share.ensures.shares ∙ same_asked (g.S.SharingRule.shares c.args.rule.now) t c.gather.new.holders c.gather.new.sizes p c.gather.ensures.holders c.gather.ensures.sizes in
@@ -39,8 +39,8 @@ returns g c =
     let p = c.args.portion in
     let e = c.share.ensures.shares ∙ same_asked (g.S.SharingRule.shares c.args.rule.now) t c.gather.new.holders c.gather.new.sizes p c.gather.ensures.holders c.gather.ensures.sizes in
     record {
-      left = c.enter-fills-left.ensures.left ∙ ap (λ l. p.number - sum l) e;
+      left = c.enter_fills-left.ensures.left ∙ ap (λ l. p.number - sum l) e;
       rule = c.share.ensures.next ∙ same_asked (g.S.SharingRule.next c.args.rule.now) t c.gather.new.holders c.gather.new.sizes p c.gather.ensures.holders c.gather.ensures.sizes;
-      records = c.lower-each.ensures ∙ ap (lowered_each g.R.Standing.lower c.args.records.now) e;
-      block = c.enter-fills-left.ensures.block ∙ ap (λ l. all_filled_in c.args.places (fills t l) c.args.block.now) e;
+      records = c.lower_each.ensures ∙ ap (lowered_each g.R.Standing.lower c.args.records.now) e;
+      block = c.enter_fills-left.ensures.block ∙ ap (λ l. all_filled_in c.args.places (fills t l) c.args.block.now) e;
     }

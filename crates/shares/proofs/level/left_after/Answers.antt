@@ -6,8 +6,8 @@ use Rattle.shares.proofs.level.left_after.Goals as goal
 pub loop-share-init : goal.loop-share-init
 loop-share-init c = omega (arith, c.requires)
 
-pub overflow-sub-left : goal.overflow-sub-left
-overflow-sub-left c = omega (arith, at_drop_more sum c.args.shares.now c.loop-share.share-index 0 c.loop-share-test.true, c.loop-share.invariant)
+pub overflow_sub-left : goal.overflow_sub-left
+overflow_sub-left c = omega (arith, at_drop_more sum c.args.shares.now c.loop-share.share-index 0 c.loop-share-test.true, c.loop-share.invariant)
 
 pub loop-share-preserved : goal.loop-share-preserved
 loop-share-preserved c = omega (arith, at_drop_more sum c.args.shares.now c.loop-share.share-index 0 c.loop-share-test.true, c.loop-share.invariant)

@@ -13,7 +13,7 @@ blanked n r ys zs ks b b' same le l k e' =
 
 pub returns : goal.returns
 returns g c =
-    let first = c.gather-standing-kept in
-    let w = blanked (length c.args.records.now) first.result first.new.records c.blank-from.new.records _ g.R.Ranked.cleared c.blank.result c.blank.ensures
-    first.ensures.few first.auto.records first.ensures.stand c.blank-from.ensures in
+    let first = c.gather_standing-kept in
+    let w = blanked (length c.args.records.now) first.result first.new.records c.blank_from.new.records _ g.R.Ranked.cleared c.blank.result c.blank.ensures
+    first.ensures.few first.auto.records first.ensures.stand c.blank_from.ensures in
     record { few = first.ensures.few; stand = w.0; freed = w.1 }

@@ -27,8 +27,8 @@ returns-then-better g c =
     let w = state l.customers l.makers l.firms l.makers_rule l.firms_rule l.customer_block l.maker_block l.firm_block in
     let few = counts_few l.at w l.invariant.0 in
     record {
-      outcome = none_reached M F c.args.side c.args.incoming c.no-price-beyond.result c.best-ahead-price.result l.at w
-          c.best-ahead-price.ensures l.invariant.1 (sym c.if-better.ensures) ∙ l.invariant.2;
+      outcome = none_reached M F c.args.side c.args.incoming c.no_price-beyond.result c.best_ahead-price.result l.at w
+          c.best_ahead-price.ensures l.invariant.1 (sym c.if-better.ensures) ∙ l.invariant.2;
       customers = few.0;
       makers = few.1;
       firms = few.2;
@@ -39,13 +39,13 @@ loop-at-preserved g c =
     let M = rule g.M.SharingRule.shares g.M.SharingRule.next in
     let F = rule g.F.SharingRule.shares g.F.SharingRule.next in
     let l = c.loop-at in
-    let s = c.serve-level-at in
+    let s = c.serve_level-at in
     let w = state l.customers l.makers l.firms l.makers_rule l.firms_rule l.customer_block l.maker_block l.firm_block in
     let w' = state s.new.customers s.new.makers s.new.firms s.new.makers_rule s.new.firms_rule s.new.customer_block s.new.maker_block s.new.firm_block in
-    let beyond : better c.args.side c.args.incoming.limit c.no-price-beyond.result ≡ true =
-    ap (better c.args.side c.args.incoming.limit) c.no-price-beyond.ensures ∙ worse_than_any c.args.side c.args.incoming.limit c.requires.range.least c.requires.range.most in
-    let on = going_on M F c.args.side c.args.incoming c.no-price-beyond.result c.best-ahead-price.result l.at w s.result w'
-    c.best-ahead-price.ensures l.invariant.1 beyond (sym c.if-better.ensures) c.loop-at-test.true s.ensures in
+    let beyond : better c.args.side c.args.incoming.limit c.no_price-beyond.result ≡ true =
+    ap (better c.args.side c.args.incoming.limit) c.no_price-beyond.ensures ∙ worse_than_any c.args.side c.args.incoming.limit c.requires.range.least c.requires.range.most in
+    let on = going_on M F c.args.side c.args.incoming c.no_price-beyond.result c.best_ahead-price.result l.at w s.result w'
+    c.best_ahead-price.ensures l.invariant.1 beyond (sym c.if-better.ensures) c.loop-at-test.true s.ensures in
     (s.ensures.ready, on.1, on.0 ∙ l.invariant.2)
 
 pub loop-at-smaller : goal.loop-at-smaller
@@ -53,13 +53,13 @@ loop-at-smaller g c =
     let M = rule g.M.SharingRule.shares g.M.SharingRule.next in
     let F = rule g.F.SharingRule.shares g.F.SharingRule.next in
     let l = c.loop-at in
-    let s = c.serve-level-at in
+    let s = c.serve_level-at in
     let w = state l.customers l.makers l.firms l.makers_rule l.firms_rule l.customer_block l.maker_block l.firm_block in
     let w' = state s.new.customers s.new.makers s.new.firms s.new.makers_rule s.new.firms_rule s.new.customer_block s.new.maker_block s.new.firm_block in
-    let beyond : better c.args.side c.args.incoming.limit c.no-price-beyond.result ≡ true =
-    ap (better c.args.side c.args.incoming.limit) c.no-price-beyond.ensures ∙ worse_than_any c.args.side c.args.incoming.limit c.requires.range.least c.requires.range.most in
-    let on = going_on M F c.args.side c.args.incoming c.no-price-beyond.result c.best-ahead-price.result l.at w s.result w'
-    c.best-ahead-price.ensures l.invariant.1 beyond (sym c.if-better.ensures) c.loop-at-test.true s.ensures in
+    let beyond : better c.args.side c.args.incoming.limit c.no_price-beyond.result ≡ true =
+    ap (better c.args.side c.args.incoming.limit) c.no_price-beyond.ensures ∙ worse_than_any c.args.side c.args.incoming.limit c.requires.range.least c.requires.range.most in
+    let on = going_on M F c.args.side c.args.incoming c.no_price-beyond.result c.best_ahead-price.result l.at w s.result w'
+    c.best_ahead-price.ensures l.invariant.1 beyond (sym c.if-better.ensures) c.loop-at-test.true s.ensures in
     let ready = s.ensures.ready in
     fewer l.at s.result (length c.args.customers.now) (length c.args.makers.now) (length c.args.firms.now) on.2
     (subst (λ k. s.result.customers ≤ k) (s.auto.customers ∙ l.auto.customers) ready.customers.inside)

@@ -8,7 +8,7 @@ use Rattle.trade.proofs.tables.trade_lists.Goals as goal
 
 pub returns : goal.returns
 returns g c =
-    let t = c.trade-places-ended in
+    let t = c.trade_places-ended in
     let e = t.ensures in
     record {
       left = e.left;

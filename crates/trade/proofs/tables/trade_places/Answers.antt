@@ -5,7 +5,7 @@ use Rattle.trade.proofs.tables.trade_places.Goals as goal
 
 pub returns : goal.returns
 returns g c =
-    let t = c.trade-tables in
+    let t = c.trade_tables in
     let e = t.ensures in
     let n = c.args.counts in
     let inside = c.requires.inside in

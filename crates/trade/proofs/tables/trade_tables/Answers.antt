@@ -7,7 +7,7 @@ use Rattle.trade.proofs.tables.trade_tables.Goals as goal
 
 pub returns : goal.returns
 returns g c =
-    let t = c.trade-levels-left in
+    let t = c.trade_levels-left in
     let o = t.ensures.outcome in
     let long = c.requires.blocks in
     record {

@@ -11,35 +11,35 @@ use Rattle.book.specs.Owed.{Owed}
 use Rattle.book.specs.View.{content}
 use Rattle.book.proofs.state.Book.enter.Goals as goal
 
-pub returns-in-err-kind : goal.returns-in-err-kind
-returns-in-err-kind g c =
+pub returns-in_err-kind : goal.returns-in_err-kind
+returns-in_err-kind g c =
     let M = rule g.M.SharingRule.shares g.M.SharingRule.next in
     let F = rule g.F.SharingRule.shares g.F.SharingRule.next in
     let b = c.args.self.now in
     let call = enter c.args.class c.args.number c.args.price c.args.size in
-    let e = c.in-err-kind.field-0.0 in
-    subst (Owed M F b b call) (ended_by c.from-residual.result e c.from-residual.ensures.1)
-    (refused_owed M F g.met.M.SharingRule.keeps g.met.F.SharingRule.keeps b call e c.in-err-kind.ensures.refused)
+    let e = c.in_err-kind.field-0.0 in
+    subst (Owed M F b b call) (ended_by c.from_residual.result e c.from_residual.ensures.1)
+    (refused_owed M F g.met.M.SharingRule.keeps g.met.F.SharingRule.keeps b call e c.in_err-kind.ensures.refused)
 
-pub enter-order-requires : goal.enter-order-requires
-enter-order-requires g c =
+pub enter_order-requires : goal.enter_order-requires
+enter_order-requires g c =
     let b = c.args.self.now in
-    let kind = c.in-ok-kind.kind in
+    let kind = c.in_ok-kind.kind in
     let call = enter c.args.class c.args.number c.args.price c.args.size in
-    let p = passes b.is_open (content b) call c.in-ok-kind.ensures.refused in (
+    let p = passes b.is_open (content b) call c.in_ok-kind.ensures.refused in (
       class_kept b.is_open b.side (drawn b.roster) b.tables (all_kept b) p.0 kind,
-      may_enter (drawn b.roster) b.tables c.args.class c.args.number c.args.price c.args.size kind c.in-ok-kind.ensures.class p.1,
+      may_enter (drawn b.roster) b.tables c.args.class c.args.number c.args.price c.args.size kind c.in_ok-kind.ensures.class p.1,
     )
 
-pub invariant-of-self : goal.invariant-of-self
-invariant-of-self g c =
+pub invariant_of-self : goal.invariant_of-self
+invariant_of-self g c =
     let M = rule g.M.SharingRule.shares g.M.SharingRule.next in
     let F = rule g.F.SharingRule.shares g.F.SharingRule.next in
     let b = c.args.self.now in
-    let kind = c.in-ok-kind.kind in
+    let kind = c.in_ok-kind.kind in
     let call = enter c.args.class c.args.number c.args.price c.args.size in
-    orders_kept M F g.met.M.SharingRule.keeps g.met.F.SharingRule.keeps b call c.args.class kind c.in-ok-kind.ensures.class
-    (with_record b.side customer [] c.args.number c.args.price c.args.size) c.enter-order.new.tables (λ o. c.enter-order.ensures.change)
+    orders_kept M F g.met.M.SharingRule.keeps g.met.F.SharingRule.keeps b call c.args.class kind c.in_ok-kind.ensures.class
+    (with_record b.side customer [] c.args.number c.args.price c.args.size) c.enter_order.new.tables (λ o. c.enter_order.ensures.change)
 
 pub returns : goal.returns
 returns g c =
@@ -52,10 +52,10 @@ returns g c =
     let n = c.args.number in
     let p = c.args.price in
     let s = c.args.size in
-    let kind = c.in-ok-kind.kind in
-    let e = c.in-ok-kind.ensures.class in
+    let kind = c.in_ok-kind.kind in
+    let e = c.in_ok-kind.ensures.class in
     let so = order_record k kind e b.side r n p s (of k ts) in
-    orders_owed M F g.met.M.SharingRule.keeps g.met.F.SharingRule.keeps b (enter k n p s) k kind e (with_record b.side customer [] n p s) c.enter-order.new.tables
-    (λ o. c.enter-order.ensures.change) _ _ _ c.enter-order.result c.in-ok-kind.ensures.refused
-    (c.enter-order.ensures.answer ∙ ap (λ t. total_at p (with_record b.side customer [] n p s t)) (sym (orders_of k kind b.tables e)) ∙ ap (total_at p) so)
+    orders_owed M F g.met.M.SharingRule.keeps g.met.F.SharingRule.keeps b (enter k n p s) k kind e (with_record b.side customer [] n p s) c.enter_order.new.tables
+    (λ o. c.enter_order.ensures.change) _ _ _ c.enter_order.result c.in_ok-kind.ensures.refused
+    (c.enter_order.ensures.answer ∙ ap (λ t. total_at p (with_record b.side customer [] n p s t)) (sym (orders_of k kind b.tables e)) ∙ ap (total_at p) so)
     (ap (λ t. with_tables (content b) (with_table k t ts)) so)

@@ -9,14 +9,14 @@ use Rattle.book.specs.Checks.{entry_checks}
 use Rattle.book.specs.View.{content}
 use Rattle.book.proofs.state.Book.may_enter.Goals as goal
 
-pub returns-in-err-kind : goal.returns-in-err-kind
-returns-in-err-kind g c =
+pub returns-in_err-kind : goal.returns-in_err-kind
+returns-in_err-kind g c =
     let b = c.args.self.now in
     let t = of c.args.class (tables_shown b.tables) in
     record {
       refused =
-          stopped c.from-residual.result c.in-err-kind.field-0.0 (entry_checks c.args.class c.args.number c.args.price c.args.size)
-          (11 if has c.args.number t ∷ 12 if leb 64 (length t) ∷ []) c.from-residual.ensures.1 c.in-err-kind.ensures.refused
+          stopped c.from_residual.result c.in_err-kind.field-0.0 (entry_checks c.args.class c.args.number c.args.price c.args.size)
+          (11 if has c.args.number t ∷ 12 if leb 64 (length t) ∷ []) c.from_residual.ensures.1 c.in_err-kind.ensures.refused
           ∙ sym (at_open b.is_open (content b) (enter c.args.class c.args.number c.args.price c.args.size) c.if-not-self.false);
-      class = IfOk-from_err c.from-residual.result _ c.from-residual.ensures.0;
+      class = IfOk-from_err c.from_residual.result _ c.from_residual.ensures.0;
     }

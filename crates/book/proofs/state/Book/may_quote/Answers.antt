@@ -19,18 +19,18 @@ returns-then-place-len g c =
       place = tt;
     }
 
-pub returns-in-err-check-quote : goal.returns-in-err-check-quote
-returns-in-err-check-quote g c =
+pub returns-in_err-check_quote : goal.returns-in_err-check_quote
+returns-in_err-check_quote g c =
     let b = c.args.self.now in
     let r = drawn b.roster in
     record {
       refused =
-          stopped c.from-residual.result c.in-err-check-quote.field-0.0 (quote_checks c.args.price c.args.size) [] c.from-residual.ensures.1
-          c.in-err-check-quote.ensures
+          stopped c.from_residual.result c.in_err-check_quote.field-0.0 (quote_checks c.args.price c.args.size) [] c.from_residual.ensures.1
+          c.in_err-check_quote.ensures
           ∙ quote_by_drawn r (content b).tables c.args.party c.args.price c.args.size
           (drawn_place r c.args.party c.place-place.result c.place-place.ensures c.len.result c.len.ensures c.if-place-len.false)
           ∙ sym (at_open b.is_open (content b) (quote c.args.party c.args.price c.args.size) c.if-not-self.false);
-      place = IfOk-from_err c.from-residual.result _ c.from-residual.ensures.0;
+      place = IfOk-from_err c.from_residual.result _ c.from_residual.ensures.0;
     }
 
 pub returns : goal.returns
@@ -39,7 +39,7 @@ returns g c =
     let r = drawn b.roster in
     record {
       refused =
-          c.in-ok-check-quote.ensures
+          c.in_ok-check_quote.ensures
           ∙ quote_by_drawn r (content b).tables c.args.party c.args.price c.args.size
           (drawn_place r c.args.party c.place-place.result c.place-place.ensures c.len.result c.len.ensures c.if-place-len.false)
           ∙ sym (at_open b.is_open (content b) (quote c.args.party c.args.price c.args.size) c.if-not-self.false);

@@ -11,27 +11,27 @@ use Rattle.book.specs.Owed.{Owed}
 use Rattle.book.specs.View.{content}
 use Rattle.book.proofs.state.Book.quote.Goals as goal
 
-pub returns-in-err-place : goal.returns-in-err-place
-returns-in-err-place g c =
+pub returns-in_err-place : goal.returns-in_err-place
+returns-in_err-place g c =
     let M = rule g.M.SharingRule.shares g.M.SharingRule.next in
     let F = rule g.F.SharingRule.shares g.F.SharingRule.next in
     let b = c.args.self.now in
     let call = quote c.args.party c.args.price c.args.size in
-    let e = c.in-err-place.field-0.0 in
-    subst (Owed M F b b call) (ended_by c.from-residual.result e c.from-residual.ensures.1)
-    (refused_owed M F g.met.M.SharingRule.keeps g.met.F.SharingRule.keeps b call e c.in-err-place.ensures.refused)
+    let e = c.in_err-place.field-0.0 in
+    subst (Owed M F b b call) (ended_by c.from_residual.result e c.from_residual.ensures.1)
+    (refused_owed M F g.met.M.SharingRule.keeps g.met.F.SharingRule.keeps b call e c.in_err-place.ensures.refused)
 
-pub invariant-of-self : goal.invariant-of-self
-invariant-of-self g c =
+pub invariant_of-self : goal.invariant_of-self
+invariant_of-self g c =
     let M = rule g.M.SharingRule.shares g.M.SharingRule.next in
     let F = rule g.F.SharingRule.shares g.F.SharingRule.next in
     let b = c.args.self.now in
     let r = drawn b.roster in
     let call = quote c.args.party c.args.price c.args.size in
-    let p = c.in-ok-place.ensures.refused in
-    let may = may_quote r b.tables c.args.party c.args.price c.args.size c.in-ok-place.place (few_drawn b.roster) c.in-ok-place.ensures.place
+    let p = c.in_ok-place.ensures.refused in
+    let may = may_quote r b.tables c.args.party c.args.price c.args.size c.in_ok-place.place (few_drawn b.roster) c.in_ok-place.ensures.place
     (passes b.is_open (content b) call p).1 in
-    quotes_kept M F g.met.M.SharingRule.keeps g.met.F.SharingRule.keeps b call c.replace-quote.new.list (λ o. c.replace-quote.ensures.kept r (b.makers o) may)
+    quotes_kept M F g.met.M.SharingRule.keeps g.met.F.SharingRule.keeps b call c.replace_quote.new.list (λ o. c.replace_quote.ensures.kept r (b.makers o) may)
 
 pub returns : goal.returns
 returns g c =
@@ -40,9 +40,9 @@ returns g c =
     let b = c.args.self.now in
     let r = drawn b.roster in
     let call = quote c.args.party c.args.price c.args.size in
-    let p = c.in-ok-place.ensures.refused in
+    let p = c.in_ok-place.ensures.refused in
     let o = passes b.is_open (content b) call p in
-    let may = may_quote r b.tables c.args.party c.args.price c.args.size c.in-ok-place.place (few_drawn b.roster) c.in-ok-place.ensures.place o.1 in
-    quotes_owed M F g.met.M.SharingRule.keeps g.met.F.SharingRule.keeps b call c.replace-quote.new.list (λ o. c.replace-quote.ensures.kept r (b.makers o) may)
-    _ _ _ c.replace-quote.result p c.replace-quote.ensures.answer
-    (ap (λ t. with_tables (content b) (with_table maker t (tables_shown b.tables))) (c.replace-quote.ensures.table r (b.makers o.0) may))
+    let may = may_quote r b.tables c.args.party c.args.price c.args.size c.in_ok-place.place (few_drawn b.roster) c.in_ok-place.ensures.place o.1 in
+    quotes_owed M F g.met.M.SharingRule.keeps g.met.F.SharingRule.keeps b call c.replace_quote.new.list (λ o. c.replace_quote.ensures.kept r (b.makers o) may)
+    _ _ _ c.replace_quote.result p c.replace_quote.ensures.answer
+    (ap (λ t. with_tables (content b) (with_table maker t (tables_shown b.tables))) (c.replace_quote.ensures.table r (b.makers o.0) may))

@@ -14,19 +14,19 @@ use Rattle.book.specs.Owed.{Owed}
 use Rattle.book.specs.View.{content}
 use Rattle.book.proofs.state.Book.trade.Goals as goal
 
-pub returns-in-err-may-trade : goal.returns-in-err-may-trade
-returns-in-err-may-trade g c =
+pub returns-in_err-may_trade : goal.returns-in_err-may_trade
+returns-in_err-may_trade g c =
     let M = rule g.M.SharingRule.shares g.M.SharingRule.next in
     let F = rule g.F.SharingRule.shares g.F.SharingRule.next in
     let b = c.args.self.now in
     let given = blocks_from c.args.customers.now c.args.makers.now c.args.firms.now in
     let call = trade c.args.limit c.args.size c.args.directed given in
-    let e = c.in-err-may-trade.field-0.0 in
-    let p = err_from_is_err_and c.from-residual.result c.from-residual.ensures.1 in
+    let e = c.in_err-may_trade.field-0.0 in
+    let p = err_from_is_err_and c.from_residual.result c.from_residual.ensures.1 in
     record {
       owed =
-          subst (Owed M F b b call) (ended_trade_by c.from-residual.result e given c.from-residual.ensures.1)
-          (refused_owed M F g.met.M.SharingRule.keeps g.met.F.SharingRule.keeps b call e (c.in-err-may-trade.ensures given refl refl refl));
+          subst (Owed M F b b call) (ended_trade_by c.from_residual.result e given c.from_residual.ensures.1)
+          (refused_owed M F g.met.M.SharingRule.keeps g.met.F.SharingRule.keeps b call e (c.in_err-may_trade.ensures given refl refl refl));
       blocks = rw p.1 refl;
     }
 
@@ -35,7 +35,7 @@ trade-left-requires g c =
     let b = c.args.self.now in
     let given = blocks_from c.args.customers.now c.args.makers.now c.args.firms.now in
     let call = trade c.args.limit c.args.size c.args.directed given in
-    let p = passes b.is_open (content b) call (c.in-ok-may-trade.ensures given refl refl refl) in
+    let p = passes b.is_open (content b) call (c.in_ok-may_trade.ensures given refl refl refl) in
     let m = may_trade (drawn b.roster) (tables_shown b.tables) c.args.limit c.args.size c.args.directed given p.1 in
     record {
       range = m.0;
@@ -45,11 +45,11 @@ trade-left-requires g c =
       blocks = m.1;
     }
 
-pub invariant-of-self : goal.invariant-of-self
-invariant-of-self g c = traded_kept c.args.self.now c.trade-left.new.tables _ _ _ _ _ c.trade-left.ensures
+pub invariant_of-self : goal.invariant_of-self
+invariant_of-self g c = traded_kept c.args.self.now c.trade-left.new.tables _ _ _ _ _ c.trade-left.ensures
 
-pub overflow-sub-result : goal.overflow-sub-result
-overflow-sub-result g c =
+pub overflow_sub-result : goal.overflow_sub-result
+overflow_sub-result g c =
     let M = rule g.M.SharingRule.shares g.M.SharingRule.next in
     let F = rule g.F.SharingRule.shares g.F.SharingRule.next in
     let b = c.args.self.now in
@@ -66,6 +66,6 @@ returns g c =
     record {
       owed =
           traded_owed M F g.met.M.SharingRule.keeps g.met.F.SharingRule.keeps b c.args.limit c.args.size c.args.directed given
-          c.trade-left.new.tables _ _ _ _ c.trade-left.ensures (c.in-ok-may-trade.ensures given refl refl refl) _ _ _;
+          c.trade-left.new.tables _ _ _ _ c.trade-left.ensures (c.in_ok-may_trade.ensures given refl refl refl) _ _ _;
       blocks = tt;
     }

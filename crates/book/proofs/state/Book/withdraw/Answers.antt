@@ -8,26 +8,26 @@ use Rattle.book.proofs.Leaving.{class_kept}
 use Rattle.book.specs.Owed.{Owed}
 use Rattle.book.proofs.state.Book.withdraw.Goals as goal
 
-pub returns-in-err-found : goal.returns-in-err-found
-returns-in-err-found g c =
+pub returns-in_err-found : goal.returns-in_err-found
+returns-in_err-found g c =
     let M = rule g.M.SharingRule.shares g.M.SharingRule.next in
     let F = rule g.F.SharingRule.shares g.F.SharingRule.next in
     let b = c.args.self.now in
     let call = withdraw c.args.class c.args.number in
-    let e = c.in-err-found.field-0.0 in
-    subst (Owed M F b b call) (ended_by c.from-residual.result e c.from-residual.ensures.1)
-    (refused_owed M F g.met.M.SharingRule.keeps g.met.F.SharingRule.keeps b call e c.in-err-found.ensures.refused)
+    let e = c.in_err-found.field-0.0 in
+    subst (Owed M F b b call) (ended_by c.from_residual.result e c.from_residual.ensures.1)
+    (refused_owed M F g.met.M.SharingRule.keeps g.met.F.SharingRule.keeps b call e c.in_err-found.ensures.refused)
 
-pub invariant-of-self : goal.invariant-of-self
-invariant-of-self g c =
+pub invariant_of-self : goal.invariant_of-self
+invariant_of-self g c =
     let M = rule g.M.SharingRule.shares g.M.SharingRule.next in
     let F = rule g.F.SharingRule.shares g.F.SharingRule.next in
     let b = c.args.self.now in
     let n = c.args.number in
-    let f = c.in-ok-found.found in
-    let x = c.in-ok-found.ensures.found in
-    orders_kept M F g.met.M.SharingRule.keeps g.met.F.SharingRule.keeps b (withdraw c.args.class n) c.args.class f.class x.0 (without n) c.withdraw-order.new.tables
-    (λ o. c.withdraw-order.ensures.change b.side n (class_kept b.is_open b.side (drawn b.roster) b.tables (all_kept b) o f.class) x.1.0)
+    let f = c.in_ok-found.found in
+    let x = c.in_ok-found.ensures.found in
+    orders_kept M F g.met.M.SharingRule.keeps g.met.F.SharingRule.keeps b (withdraw c.args.class n) c.args.class f.class x.0 (without n) c.withdraw_order.new.tables
+    (λ o. c.withdraw_order.ensures.change b.side n (class_kept b.is_open b.side (drawn b.roster) b.tables (all_kept b) o f.class) x.1.0)
 
 pub returns : goal.returns
 returns g c =
@@ -35,9 +35,9 @@ returns g c =
     let F = rule g.F.SharingRule.shares g.F.SharingRule.next in
     let b = c.args.self.now in
     let n = c.args.number in
-    let f = c.in-ok-found.found in
-    let x = c.in-ok-found.ensures.found in
-    orders_owed M F g.met.M.SharingRule.keeps g.met.F.SharingRule.keeps b (withdraw c.args.class n) c.args.class f.class x.0 (without n) c.withdraw-order.new.tables
-    (λ o. c.withdraw-order.ensures.change b.side n (class_kept b.is_open b.side (drawn b.roster) b.tables (all_kept b) o f.class) x.1.0) _ _ _
-    c.withdraw-order.result c.in-ok-found.ensures.refused
-    (c.withdraw-order.ensures.answer n x.1.0 ∙ ap (left_to n) (sym (orders_of c.args.class f.class b.tables x.0))) refl
+    let f = c.in_ok-found.found in
+    let x = c.in_ok-found.ensures.found in
+    orders_owed M F g.met.M.SharingRule.keeps g.met.F.SharingRule.keeps b (withdraw c.args.class n) c.args.class f.class x.0 (without n) c.withdraw_order.new.tables
+    (λ o. c.withdraw_order.ensures.change b.side n (class_kept b.is_open b.side (drawn b.roster) b.tables (all_kept b) o f.class) x.1.0) _ _ _
+    c.withdraw_order.result c.in_ok-found.ensures.refused
+    (c.withdraw_order.ensures.answer n x.1.0 ∙ ap (left_to n) (sym (orders_of c.args.class f.class b.tables x.0))) refl

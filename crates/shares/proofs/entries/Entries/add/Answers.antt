@@ -6,8 +6,8 @@ use Rattle.shares.specs.Listed.{holders_of, sizes_of}
 use Rattle.shares.proofs.Taking.{accepted}
 use Rattle.shares.proofs.entries.Entries.add.Goals as goal
 
-pub invariant-of-self : goal.invariant-of-self
-invariant-of-self c =
+pub invariant_of-self : goal.invariant_of-self
+invariant_of-self c =
     let holders = take_more_set c.args.self.now.holders c.args.self.now.count c.args.holder (omega arith) in
     let sizes = take_more_set c.args.self.now.sizes c.args.self.now.count c.args.size (omega arith) in
     let new : row.listed c.args.holder (holders_of c.args.self.now) ≡ false = ap (row.listed c.args.holder) (sym c.holders.ensures.value) ∙ sym c.if-listed.ensures in (

@@ -18,27 +18,27 @@ returns-then-asked-total c =
     let covers : leb (row.sum c.args.asked.sizes.now) c.args.asked.number ≡ true =
     le-leb (row.sum c.args.asked.sizes.now) c.args.asked.number (omega (arith, c.sum-total.ensures)) in
     record {
-      shares = c.copy-from-slice.ensures.after ∙ rw covers;
+      shares = c.copy_from_slice.ensures.after ∙ rw covers;
       next = sym (still_rule c.args.self.now (inputs_of c.args.asked) (rw covers));
     }
 
 pub sum-requires : goal.sum-requires
 sum-requires c =
-    let low = base_low c.args.self.now.specialist (inputs_of c.args.asked) c.sum-total.result c.share-base.new.out c.requires.0 c.sum-total.ensures c.if-asked-total.false c.share-base.ensures in
+    let low = base_low c.args.self.now.specialist (inputs_of c.args.asked) c.sum-total.result c.share_base.new.out c.requires.0 c.sum-total.ensures c.if-asked-total.false c.share_base.ensures in
     omega arith
 
-pub overflow-sub-left : goal.overflow-sub-left
-overflow-sub-left c =
-    let low = base_low c.args.self.now.specialist (inputs_of c.args.asked) c.sum-total.result c.share-base.new.out c.requires.0 c.sum-total.ensures c.if-asked-total.false c.share-base.ensures in
+pub overflow_sub-left : goal.overflow_sub-left
+overflow_sub-left c =
+    let low = base_low c.args.self.now.specialist (inputs_of c.args.asked) c.sum-total.result c.share_base.new.out c.requires.0 c.sum-total.ensures c.if-asked-total.false c.share_base.ensures in
     omega (arith, c.sum.ensures)
 
-pub invariant-of-self : goal.invariant-of-self
-invariant-of-self c = (
+pub invariant_of-self : goal.invariant_of-self
+invariant_of-self c = (
   (
     c.args.self.now.sound.0,
-    turned_turn (drawn c.args.self.now.roster) c.args.self.now.state.turn c.give-by-turn-left.new.state.turn
-        (take (c.args.asked.number - c.sum.result) (takers (drawn c.args.self.now.roster) c.args.self.now.state.turn c.args.asked.holders.now c.args.asked.sizes.now c.share-base.new.out))
-        c.give-by-turn-left.ensures.turn_is c.args.self.now.sound.1,
+    turned_turn (drawn c.args.self.now.roster) c.args.self.now.state.turn c.give_by_turn-left.new.state.turn
+        (take (c.args.asked.number - c.sum.result) (takers (drawn c.args.self.now.roster) c.args.self.now.state.turn c.args.asked.holders.now c.args.asked.sizes.now c.share_base.new.out))
+        c.give_by_turn-left.ensures.turn_is c.args.self.now.sound.1,
   ),
   tt,
 )
@@ -47,11 +47,11 @@ pub returns : goal.returns
 returns c =
     let short : leb (row.sum c.args.asked.sizes.now) c.args.asked.number ≡ false =
     lt-leb (row.sum c.args.asked.sizes.now) c.args.asked.number (omega (arith, c.sum-total.ensures)) in
-    let left : c.args.asked.number - c.sum.result ≡ c.args.asked.number - row.sum c.share-base.new.out = ap (λ n. c.args.asked.number - n) c.sum.ensures in
+    let left : c.args.asked.number - c.sum.result ≡ c.args.asked.number - row.sum c.share_base.new.out = ap (λ n. c.args.asked.number - n) c.sum.ensures in
     record {
-      shares = drawn_shares (drawn c.args.self.now.roster) c.args.self.now.specialist c.args.self.now.state.turn (inputs_of c.args.asked) c.share-base.new.out _
-          c.give-by-turn-left.result c.give-by-turn-left.new.shares c.give-outside.new.shares short c.share-base.ensures left
-          c.give-by-turn-left.ensures.left_is c.give-by-turn-left.ensures.shares_are c.give-outside.ensures;
-      next = same_rule c.args.self.now.roster c.args.self.now.specialist c.give-by-turn-left.new.state _ _ _
-          (drawn_turn c.args.self.now (inputs_of c.args.asked) c.share-base.new.out _ c.give-by-turn-left.new.state.turn short c.share-base.ensures left c.give-by-turn-left.ensures.turn_is);
+      shares = drawn_shares (drawn c.args.self.now.roster) c.args.self.now.specialist c.args.self.now.state.turn (inputs_of c.args.asked) c.share_base.new.out _
+          c.give_by_turn-left.result c.give_by_turn-left.new.shares c.give_outside.new.shares short c.share_base.ensures left
+          c.give_by_turn-left.ensures.left_is c.give_by_turn-left.ensures.shares_are c.give_outside.ensures;
+      next = same_rule c.args.self.now.roster c.args.self.now.specialist c.give_by_turn-left.new.state _ _ _
+          (drawn_turn c.args.self.now (inputs_of c.args.asked) c.share_base.new.out _ c.give_by_turn-left.new.state.turn short c.share_base.ensures left c.give_by_turn-left.ensures.turn_is);
     }

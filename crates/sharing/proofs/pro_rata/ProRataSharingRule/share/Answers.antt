@@ -7,10 +7,10 @@ sum-total-requires c = omega (arith, sum_most 99999 c.args.asked.sizes.now c.req
 
 pub sum-requires : goal.sum-requires
 sum-requires c =
-    let low = plain_low c.args.asked.number c.sum-total.result c.args.asked.sizes.now c.plain-shares.new.out c.plain-shares.ensures c.sum-total.ensures c.if-asked-total.false c.requires.0.sized in
+    let low = plain_low c.args.asked.number c.sum-total.result c.args.asked.sizes.now c.plain_shares.new.out c.plain_shares.ensures c.sum-total.ensures c.if-asked-total.false c.requires.0.sized in
     omega arith
 
-pub overflow-sub-left : goal.overflow-sub-left
-overflow-sub-left c =
-    let low = plain_low c.args.asked.number c.sum-total.result c.args.asked.sizes.now c.plain-shares.new.out c.plain-shares.ensures c.sum-total.ensures c.if-asked-total.false c.requires.0.sized in
+pub overflow_sub-left : goal.overflow_sub-left
+overflow_sub-left c =
+    let low = plain_low c.args.asked.number c.sum-total.result c.args.asked.sizes.now c.plain_shares.new.out c.plain_shares.ensures c.sum-total.ensures c.if-asked-total.false c.requires.0.sized in
     omega (arith, c.sum.ensures)
