@@ -1,6 +1,6 @@
 -- A kept list: the records that stand in it, and how its places read after each call.
 use Rattle.std.specs.Prelude.{◌≡◌, ℕ, ◌+◌, ◌-◌, ◌<◌, ◌≤◌, Bool, true, false, ◌&&◌, List, [], ◌∷◌, ◌++◌, length, take, drop, replicate, Some, None, Ok, Err, Option, Result, nat_lt, slice_set}
-use Rattle.std.specs.Borrow.{Bor}
+use Rattle.std.specs.Borrow.{MutBor}
 use Rattle.std.specs.List.{insert, remove, slice_get}
 use Rattle.kept.specs.Inserting.{place_of, in_rank}
 use Rattle.kept.specs.declared.list.KeptList.{KeptList}
@@ -51,7 +51,7 @@ pub record Made {R : Type 0} (blank : R) (bound : ℕ) (lent : List R) (l : Kept
   pub sound : (nw : R → R → Bool) (vacant : R → Bool) → vacant blank ≡ true → Sound nw vacant l
 
 -- too few places are handed back as they were
-abbrev pub Makes : {R : Type 0} → (blank : R) → (bound : ℕ) → (lent : List R) → Result (KeptList R) (Bor (List R)) → Type 0
+abbrev pub Makes : {R : Type 0} → (blank : R) → (bound : ℕ) → (lent : List R) → Result (KeptList R) (MutBor (List R)) → Type 0
 Makes blank bound lent (Ok l) = (bound ≤ length lent) × Made blank bound lent l
 Makes blank bound lent (Err back) = (length lent < bound) × (back.now ≡ lent)
 

@@ -33,15 +33,14 @@ overflow_sub-left c =
     omega (arith, c.sum.ensures)
 
 pub invariant_of-self : goal.invariant_of-self
-invariant_of-self c = (
-  (
+invariant_of-self c = record {
+  sound = (
     c.args.self.now.sound.0,
     turned_turn (drawn c.args.self.now.roster) c.args.self.now.state.turn c.give_by_turn-left.new.state.turn
         (take (c.args.asked.number - c.sum.result) (takers (drawn c.args.self.now.roster) c.args.self.now.state.turn c.args.asked.holders.now c.args.asked.sizes.now c.share_base.new.out))
         c.give_by_turn-left.ensures.turn_is c.args.self.now.sound.1,
-  ),
-  tt,
-)
+  );
+}
 
 pub returns : goal.returns
 returns c =
