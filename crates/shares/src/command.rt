@@ -66,7 +66,7 @@ fn read_draw(fields: &mut Fields<'_>) -> Result<Command, Fault> {
         let Some(part) = fields.next() else {
             return Ok(Command::Draw(draw));
         };
-        if part.text == b"specialist" {
+        if part.text == b"specialist".as_slice() {
             draw.specialist = read_number(fields)?;
             read_end(fields)?;
             return Ok(Command::Draw(draw));
@@ -92,7 +92,7 @@ fn read_order(fields: &mut Fields<'_>) -> Result<Command, Fault> {
     let Some(part) = fields.next() else {
         return Ok(Command::Order(Order { size, directed: 0 }));
     };
-    if part.text != b"to" {
+    if part.text != b"to".as_slice() {
         return Err(Fault::TooMany);
     }
     let directed = read_number(fields)?;

@@ -10,14 +10,14 @@ pub invariant_of-self : goal.invariant_of-self
 invariant_of-self c =
     let holders = take_more_set c.args.self.now.holders c.args.self.now.count c.args.holder (omega arith) in
     let sizes = take_more_set c.args.self.now.sizes c.args.self.now.count c.args.size (omega arith) in
-    let new : row.listed c.args.holder (holders_of c.args.self.now) ≡ false = ap (row.listed c.args.holder) (sym c.holders.ensures.value) ∙ sym c.if-listed.ensures in (
-      (
+    let new : row.listed c.args.holder (holders_of c.args.self.now) ≡ false = ap (row.listed c.args.holder) (sym c.holders.ensures.value) ∙ sym c.if-listed.ensures in
+    record {
+      sound = (
         omega arith,
         ap row.distinct holders ∙ distinct_push (holders_of c.args.self.now) c.args.holder c.args.self.now.sound.1 new,
         ap (row.all_within 99999) sizes ∙ ranged_push 99999 (sizes_of c.args.self.now) c.args.size c.args.self.now.sound.2 (sym c.if-not-within-2.ensures),
-      ),
-      tt,
-    )
+      );
+    }
 
 pub returns : goal.returns
 returns c =
