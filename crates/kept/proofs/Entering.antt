@@ -1,11 +1,11 @@
 -- Lists in rank stay in rank where a record enters, leaves or is written over, and records of one rank stand as they arrived.
-use Rattle.std.proofs.Common.{◌≡◌, ℕ, zero, suc, ◌+◌, ◌≤◌, Bool, true, false, cond, not, ◌&&◌, ◌||◌, List, [], ◌∷◌, ◌++◌, length, get_or, take, drop, set, Some, fold, filter, sym, refl, ap, ◌∙◌, subst, inl, inr, one-add, arith}
+use Rattle.std.proofs.Common.{◌≡◌, ℕ, zero, suc, Bool, true, false, not, List, [], ◌∷◌, ◌++◌, get_or, take, drop, set, Some, fold, filter, sym, refl, ap, ◌∙◌, subst, inl, inr, one-add, arith}
 use Rattle.std.proofs.ByRecursion.{All-weaker, All-append, All-take, All-drop, All-set}
 use Rattle.std.proofs.lemmas.List.Edits.{get_or-insert_at}
 use Rattle.std.proofs.lemmas.List.{append_assoc, append-nil}
 use Rattle.std.proofs.lemmas.List.Sums.{prefix_len-le-length}
 use Rattle.std.proofs.lemmas.Bool.{cases_Bool, or_cases, and_parts, and_from, both_ways}
-use Rattle.std.specs.List.{prefix_len, insert, remove, AllByRecursion as All, slice_get}
+use Rattle.std.specs.List.{remove, AllByRecursion as All, slice_get}
 use Rattle.kept.specs.Inserting.{place_of, entered, leads, in_rank, Total, Chained, level, Orderly}
 use Rattle.kept.specs.Kept.{Alike}
 

@@ -5,7 +5,6 @@ use Rattle.std.proofs.lemmas.List.{length-append}
 use Rattle.std.proofs.lemmas.Bool.{cases_Bool, eq-eqb, ne_eqb}
 use Rattle.terms.specs.Numbers.{listed, within}
 use Rattle.kept.specs.Standing.{Interest}
-use Rattle.model.specs.Book.{made}
 use Rattle.model.specs.Fills.{Fills}
 use Rattle.model.specs.Prices.{prices}
 use Rattle.model.specs.Tables.{Tables, at_price}

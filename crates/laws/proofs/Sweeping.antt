@@ -4,11 +4,10 @@ use Rattle.std.proofs.lemmas.Bool.Decides.{eqb_tells}
 use Rattle.std.proofs.lemmas.Bool.{or_cases, cases_Bool, eq-eqb, ne_eqb, eqb-true, cases_lt}
 use Rattle.terms.specs.Numbers.{sum, listed, within}
 use Rattle.kept.specs.Ranked.{better}
-use Rattle.model.specs.Book.{made}
 use Rattle.model.specs.Fills.{fills, given_to, Fills}
 use Rattle.model.specs.Prices.{prices}
 use Rattle.model.specs.Tables.{Tables, has, left_to, at_price, sizes_of, price_of, holders_of}
-use Rattle.model.specs.Trading.{at_level, level}
+use Rattle.model.specs.Trading.{at_level}
 use Rattle.model.specs.Words.{Three, of}
 use Rattle.laws.specs.Possible.{FairSweep}
 use Rattle.laws.proofs.Changing.{once_part, part_at}

@@ -1,14 +1,14 @@
 -- Parties found by their places: what the code reads there is what the definitions say.
-use Rattle.std.proofs.Common.{◌≡◌, ℕ, zero, suc, ◌+◌, ◌-◌, ◌*◌, ◌/◌, ◌<◌, ◌≤◌, min, true, false, not, ◌&&◌, eqb, ltb, ◌≢◌, ◌⊎◌, List, [], ◌∷◌, length, get_or, set, sym, refl, ap, ◌∙◌, inl, inr, div-lt_iff_lt-mul, add-one, arith}
+use Rattle.std.proofs.Common.{◌≡◌, ℕ, ◌-◌, ◌*◌, ◌/◌, ◌<◌, ◌≤◌, min, true, false, eqb, ltb, ◌≢◌, ◌⊎◌, List, [], ◌∷◌, length, get_or, set, sym, ap, ◌∙◌, inl, inr, div-lt_iff_lt-mul, add-one, arith}
 use Rattle.std.proofs.lemmas.Bool.{eq-eqb, ne_eqb, lt-ltb, le-ltb}
-use Rattle.std.proofs.lemmas.Bool.Decides.{eqb_tells, nat_tests}
+use Rattle.std.proofs.lemmas.Bool.Decides.{eqb_tells}
 use Rattle.terms.specs.Numbers.{sum, listed, place}
-use Rattle.terms.proofs.Rows.{listed_place, place_le}
+use Rattle.terms.proofs.Rows.{listed_place}
 use Rattle.sharing.specs.Draw.{stands, size_of, percentage, entitled, entitlement, prevails, entitled_first, base_shares}
 use Rattle.sharing.specs.ProRata.{plain}
 use Rattle.sharing.specs.Rule.{Inputs, Valid}
 use Rattle.sharing.specs.Counts.{count, Single, distinct_single, single_rest, single_first}
-use Rattle.sharing.specs.Entitled.{Prevailing, prevailing, leaves_less, size_le, none_first}
+use Rattle.sharing.specs.Entitled.{prevailing, leaves_less, size_le, none_first}
 
 -- a party stands where it has a place before the end
 pub stands_at : (party : ℕ) (holders : List ℕ) → party ≢ 0 → place holders party < length holders → stands party holders ≡ true

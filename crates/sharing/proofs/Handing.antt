@@ -1,10 +1,10 @@
 -- Leftovers handed out one by one, as the code does it.
-use Rattle.std.proofs.Common.{◌≡◌, ℕ, zero, suc, ◌+◌, ◌-◌, ◌<◌, ◌≤◌, Bool, true, false, cond, not, ◌&&◌, eqb, ltb, ◌⊎◌, List, [], ◌∷◌, ◌++◌, length, get_or, take, drop, set, sym, refl, ap, ◌∙◌, inl, inr, add-one, arith}
+use Rattle.std.proofs.Common.{◌≡◌, ℕ, zero, suc, ◌+◌, ◌-◌, ◌<◌, ◌≤◌, true, false, cond, ◌&&◌, eqb, ltb, ◌⊎◌, List, [], ◌∷◌, length, get_or, take, set, sym, refl, ap, ◌∙◌, inl, inr, add-one, arith}
 use Rattle.std.proofs.lemmas.Bool.{cases_Bool, lt-ltb}
 use Rattle.std.proofs.lemmas.Bool.Decides.{eqb_tells, nat_tests}
 use Rattle.terms.specs.Numbers.{listed, place}
-use Rattle.sharing.specs.Draw.{unspent, among, outside, with_leftovers, behind, turn_after}
-use Rattle.sharing.specs.Counts.{count, Single, listed_tells, single_rest, single_first, count_among, count_take, count_outside}
+use Rattle.sharing.specs.Draw.{unspent, among, with_leftovers}
+use Rattle.sharing.specs.Counts.{count, Single, listed_tells, single_rest, single_first, count_among, count_take}
 use Rattle.sharing.specs.Remaining.{count_unspent}
 
 -- ---- one contract to one party ----

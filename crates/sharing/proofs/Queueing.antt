@@ -1,7 +1,6 @@
 -- The two rounds of leftovers together: one queue, the roster's by turn and then the others.
 use Rattle.std.proofs.Common.{◌≡◌, ℕ, zero, suc, ◌+◌, ◌-◌, Bool, true, false, cond, ltb, leb, ◌⊎◌, List, [], ◌∷◌, ◌++◌, length, take, sym, refl, ap, ◌∙◌, inl, inr, arith}
 use Rattle.std.proofs.lemmas.Bool.{cases_Bool}
-use Rattle.std.proofs.lemmas.Bool.Decides.{nat_tests}
 use Rattle.terms.specs.Numbers.{sum, listed}
 use Rattle.sharing.specs.Draw.{unspent, outside, round, takers, queue, with_leftovers, base_shares, draw_shares}
 use Rattle.sharing.specs.Rule.{Inputs}

@@ -1,10 +1,10 @@
 -- The two rounds of leftovers as the code goes through them: by turn round the roster, and along the list for those outside it.
-use Rattle.std.proofs.Common.{◌≡◌, ℕ, zero, suc, ◌+◌, ◌-◌, ◌<◌, ◌≤◌, Bool, true, false, cond, not, ◌&&◌, eqb, ltb, ◌⊎◌, List, [], ◌∷◌, ◌++◌, length, get_or, take, drop, sym, refl, ap, ◌∙◌, inl, inr, add-one, arith}
+use Rattle.std.proofs.Common.{◌≡◌, ℕ, zero, suc, ◌+◌, ◌-◌, ◌<◌, ◌≤◌, true, false, cond, ◌&&◌, eqb, ltb, ◌⊎◌, List, [], ◌∷◌, length, get_or, take, drop, sym, refl, ap, ◌∙◌, inl, inr, add-one, arith}
 use Rattle.std.proofs.lemmas.List.{at_drop_more, at_drop_all, get_or_append_left, get_or-append_right, get_or-drop, get_or-take, length-append, length-drop, length-take}
 use Rattle.std.proofs.lemmas.Bool.{cases_Bool, eq-eqb, lt-ltb, ltb-true, ltb-false}
 use Rattle.std.proofs.lemmas.Bool.Decides.{eqb_tells, nat_tests}
 use Rattle.terms.specs.Numbers.{listed, place}
-use Rattle.sharing.specs.Draw.{unspent, among, outside, round, by_turn, takers, queue, with_leftovers, behind, turn_after}
+use Rattle.sharing.specs.Draw.{unspent, among, outside, round, takers, with_leftovers, behind, turn_after}
 use Rattle.sharing.specs.Placed.{Turned}
 use Rattle.sharing.specs.Counts.{count, Single, listed_tells, single_rest, single_first, count_outside, count_round}
 use Rattle.sharing.proofs.Handing.{moved, hand_out, hand_out_is}

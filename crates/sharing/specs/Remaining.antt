@@ -4,7 +4,7 @@ use Rattle.std.proofs.Common.{ap, ◌∙◌, inl, inr, arith}
 use Rattle.std.proofs.lemmas.Bool.Decides.{leb_tells, nat_tests}
 use Rattle.std.proofs.lemmas.List.{length-take, length-append, nil_from_length}
 use Rattle.sharing.specs.Draw.{base_shares, unspent, among, outside, round, with_leftovers, queue, draw_shares, draw_next}
-use Rattle.terms.specs.Numbers.{sum, listed, distinct}
+use Rattle.terms.specs.Numbers.{sum, listed}
 use Rattle.sharing.specs.Rule.{Inputs, Valid, Fair, EachWithin}
 use Rattle.sharing.specs.Counts.{count, Single, listed_tells, distinct_single, single_rest, single_first, count_append, count_take, count_round, count_among, count_outside, length_parts, among_swap, among_all, among_same}
 use Rattle.sharing.specs.Entitled.{base_good}

@@ -1,4 +1,4 @@
-use Rattle.std.proofs.Common.{◌≡◌, sym, ◌∙◌, arith}
+use Rattle.std.proofs.Common.{sym, ◌∙◌, arith}
 use Rattle.std.proofs.lemmas.List.{at_drop_all}
 use Rattle.lines.specs.Numbers as spelled
 use Rattle.lines.proofs.Spelling.{digits_stop, digits_on, value_on, one_more, short, no_number, a_number, some_bytes}

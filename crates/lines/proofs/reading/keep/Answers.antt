@@ -1,4 +1,4 @@
-use Rattle.std.proofs.Common.{◌≡◌, ◌-◌, ◌≤◌, min, cond, length, take, is_ok, vec_items, vec_len, sym, ap, ◌∙◌, arith, rules}
+use Rattle.std.proofs.Common.{◌≡◌, ◌-◌, min, cond, length, is_ok, vec_items, ap, ◌∙◌, arith, rules}
 use Rattle.lines.proofs.Keeping.{kept_first}
 use Rattle.lines.proofs.reading.keep.Goals as goal
 

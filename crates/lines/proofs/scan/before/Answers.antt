@@ -1,7 +1,6 @@
-use Rattle.std.proofs.Common.{◌≡◌, ℕ, ◌+◌, ◌<◌, not, eqb, List, length, get_or, drop, ap, arith}
+use Rattle.std.proofs.Common.{not, eqb, get_or, ap, arith}
 use Rattle.std.proofs.lemmas.List.Sums.{prefix_len-drop_yes, prefix_len-drop_no, prefix_len-drop_all}
 use Rattle.std.proofs.lemmas.Bool.{eq-eqb, ne_eqb}
-use Rattle.lines.specs.Split as split
 use Rattle.lines.proofs.scan.before.Goals as goal
 
 pub returns-then-bytes-i : goal.returns-then-bytes-i

@@ -1,6 +1,4 @@
-use Rattle.std.proofs.Common.{sym, ◌∙◌, arith}
-use Rattle.sharing.specs.Rule.{inputs}
-use Rattle.terms.specs.Numbers.{sum}
+use Rattle.std.proofs.Common.{sym, ◌∙◌}
 use Rattle.shares.proofs.Sharing.{entries_valid, no_more}
 use Rattle.shares.proofs.level.share_class.Goals as goal
 

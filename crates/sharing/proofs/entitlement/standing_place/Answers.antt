@@ -1,4 +1,3 @@
-use Rattle.std.proofs.Common.{sym}
 use Rattle.sharing.proofs.Finding.{stands_at, stands_nowhere}
 use Rattle.sharing.proofs.entitlement.standing_place.Goals as goal
 

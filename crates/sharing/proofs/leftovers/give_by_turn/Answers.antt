@@ -1,4 +1,4 @@
-use Rattle.std.proofs.Common.{◌≡◌, ◌<◌, length, get_or, sym, refl, ap, ◌∙◌, inl, inr, arith, rules}
+use Rattle.std.proofs.Common.{◌≡◌, ◌<◌, length, sym, refl, ◌∙◌, inl, inr, arith, rules}
 use Rattle.sharing.specs.Made.{drawn}
 use Rattle.sharing.specs.Counts.{distinct_single}
 use Rattle.sharing.specs.Rosters.{roster_once, turn_before}
