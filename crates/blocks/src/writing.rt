@@ -1,9 +1,9 @@
 // Writing a block: cleared first, then one fill behind another.
 ghost use Rattle.std.specs.Prelude.{◌≡◌, ℕ, ◌+◌, ◌≤◌, not, ◌&&◌, List, [], ◌∷◌, ◌++◌, length, replicate, OnErr, nat_le, nat_lt};
-ghost use Rattle.terms.specs.Numbers.{listed as stands-in, within as in-range};
+ghost use Rattle.terms.specs.Numbers.{listed as stands_in, within as in_range};
 ghost use Rattle.blocks.specs.declared.fill.Fill.{Fill as One};
 ghost use Rattle.blocks.specs.Layouts.{most_holder, places_of};
-ghost use Rattle.blocks.specs.Blocks.{block as Block-of, fit};
+ghost use Rattle.blocks.specs.Blocks.{block as block_of, fit};
 ghost use Rattle.blocks.specs.Reading.{written};
 ghost use Rattle.blocks.specs.Writing.{Room, added, cleared, left_by, with_fill};
 
@@ -27,7 +27,7 @@ pub fn clear(block: &mut [u32]) -> Result<(), Refusal>
 // Sets every number to 0: in a row as long as a block, this is the block of no fills.
 pub fn blank(block: &mut [u32])
     ensures zero { block.new ≡ replicate (length block.old) 0 }
-    ensures block { (places : ℕ) → length block.old ≡ 2 + places + places → block.new ≡ Block-of places [] }
+    ensures block { (places : ℕ) → length block.old ≡ 2 + places + places → block.new ≡ block_of places [] }
 {
     for n in block.iter_mut() {
         *n = 0;
@@ -65,7 +65,7 @@ fn takes(layout: Layout, block: &[u32], fill: Fill) -> bool
 
 // Whether one more holder fits behind those of a block.
 fn takes_holder(layout: Layout, holders: &[u32], holder: u32) -> bool
-    ensures { result ≡ (nat_lt (length holders.now) (places_of layout) && (in-range (most_holder layout) holder && not (stands-in holder holders.now))) }
+    ensures { result ≡ (nat_lt (length holders.now) (places_of layout) && (in_range (most_holder layout) holder && not (stands_in holder holders.now))) }
 {
     holders.len() < layout.places()
         && within(layout.most_holder(), holder)
@@ -75,7 +75,7 @@ fn takes_holder(layout: Layout, holders: &[u32], holder: u32) -> bool
 // Whether more contracts fit to those of a block.
 fn takes_contracts(total: u32, contracts: u32) -> bool
     requires { total ≤ 999999 }
-    ensures { result ≡ (in-range 99999 contracts && nat_le (total + contracts) 999999) }
+    ensures { result ≡ (in_range 99999 contracts && nat_le (total + contracts) 999999) }
 {
     within(MOST_CONTRACTS, contracts) && total + contracts <= MOST_TRADED
 }
@@ -83,7 +83,7 @@ fn takes_contracts(total: u32, contracts: u32) -> bool
 // Adds a fill behind those of a block that has room for it, and checks nothing.
 pub fn add_unchecked(block: &mut [u32], places: usize, holder: u32, contracts: u32)
     requires { Room places contracts block.old }
-    ensures { (fs : List One) → block.old ≡ Block-of places fs → block.new ≡ Block-of places (fs ++ record { holder = holder; contracts = contracts } ∷ []) }
+    ensures { (fs : List One) → block.old ≡ block_of places fs → block.new ≡ block_of places (fs ++ record { holder = holder; contracts = contracts } ∷ []) }
 {
     let count = block[0];
     let total = block[1];

@@ -1,12 +1,12 @@
 // Shares by size, and leftovers in list order: what pro rata and the draw rule have in common.
 ghost use Rattle.std.specs.Prelude.{◌≡◌, ◌*◌, ◌/◌, ◌^◌, ◌<◌, ◌≤◌, length};
-ghost use Rattle.terms.specs.Numbers.{sum as added-up};
+ghost use Rattle.terms.specs.Numbers.{sum as added_up};
 ghost use Rattle.sharing.specs.ProRata.{plain, one_each};
 
 // All numbers added up.
 pub(crate) fn sum(numbers: &[u32]) -> u32
-    requires { added-up numbers.now < 2 ^ 32 }
-    ensures { result ≡ added-up numbers.now }
+    requires { added_up numbers.now < 2 ^ 32 }
+    ensures { result ≡ added_up numbers.now }
 {
     numbers.iter().sum()
 }

@@ -1,6 +1,6 @@
 // Drawing a roster, and places in it.
 ghost use Rattle.std.specs.Prelude.{◌≡◌, ◌+◌, ◌-◌, ◌<◌, ◌≤◌, Bool, true, false, [], length, if◌then◌else◌, MatchResult, nat_lt, slice_index};
-ghost use Rattle.terms.specs.Numbers.{listed as stands-in, place as place_of};
+ghost use Rattle.terms.specs.Numbers.{listed as stands_in, place as place_of};
 ghost use Rattle.sharing.specs.Making.{drawable, draws, why_not};
 ghost use Rattle.sharing.specs.Made.{drawn};
 
@@ -71,7 +71,7 @@ impl Roster {
 
     // Whether the party is drawn.
     pub fn has(&self, party: u32) -> bool
-        ensures { result ≡ stands-in party (drawn self.now) }
+        ensures { result ≡ stands_in party (drawn self.now) }
     {
         listed(party, self.parties())
     }

@@ -1,8 +1,8 @@
 // The draw rule before leftovers: who is entitled, to what, and the shares that follow.
 ghost use Rattle.std.specs.Prelude.{◌≡◌, ◌<◌, false, length, MatchOption};
-ghost use Rattle.terms.specs.Numbers.{sum as added-up};
+ghost use Rattle.terms.specs.Numbers.{sum as added_up};
 ghost use Rattle.sharing.specs.Asking.{inputs_of};
-ghost use Rattle.sharing.specs.Draw.{base_shares, entitled, entitlement as entitled-to, percentage as percentage-of, prevails, stands};
+ghost use Rattle.sharing.specs.Draw.{base_shares, entitled, entitlement as entitled_to, percentage as percentage_of, prevails, stands};
 ghost use Rattle.sharing.specs.Placed.{EntitledAt, IsPlace, PrevailsAt, StandsAt};
 ghost use Rattle.sharing.specs.Rule.{Valid};
 
@@ -12,7 +12,7 @@ use terms::place;
 
 // The percentage to which a party at the price is entitled, by the number of its rivals, the other makers there.
 fn percentage(rivals: usize, arriving: u32, directed: bool, specialist: bool) -> u32
-    ensures { result ≡ percentage-of rivals arriving directed specialist }
+    ensures { result ≡ percentage_of rivals arriving directed specialist }
 {
     match rivals {
         0 => 0,
@@ -51,7 +51,7 @@ fn entitled_place(specialist: u32, asked: Asked<'_>) -> Option<usize>
 fn entitlement_at(at: usize, specialist: u32, asked: Asked<'_>) -> u32
     requires valid { Valid (inputs_of asked) }
     requires at { IsPlace at (entitled specialist (inputs_of asked)) asked.holders.now }
-    ensures { result ≡ entitled-to specialist (entitled specialist (inputs_of asked.entry)) (inputs_of asked.entry) }
+    ensures { result ≡ entitled_to specialist (entitled specialist (inputs_of asked.entry)) (inputs_of asked.entry) }
 {
     let holder = asked.holders[at];
     let percent = percentage(
@@ -73,7 +73,7 @@ struct Entitlement {
 // The entitlement that prevails, if one does: it is above the plain share of its holder.
 fn prevailing(specialist: u32, total: u32, asked: Asked<'_>) -> Option<Entitlement>
     requires valid { Valid (inputs_of asked) }
-    requires short { (total ≡ added-up asked.sizes.now) × (asked.number < total) }
+    requires short { (total ≡ added_up asked.sizes.now) × (asked.number < total) }
     ensures { MatchOption result (prevails specialist (inputs_of asked.entry) ≡ false) (λ e. PrevailsAt e.at e.takes specialist (inputs_of asked.entry)) }
 {
     let at = entitled_place(specialist, asked)?;
@@ -89,7 +89,7 @@ fn prevailing(specialist: u32, total: u32, asked: Asked<'_>) -> Option<Entitleme
 // Writes the shares before leftovers: with the entitlement first where one prevails.
 pub(crate) fn share_base(specialist: u32, total: u32, asked: Asked<'_>, out: &mut [u32])
     requires valid { (Valid (inputs_of asked)) × (length out.old ≡ length asked.sizes.now) }
-    requires short { (total ≡ added-up asked.sizes.now) × (asked.number < total) }
+    requires short { (total ≡ added_up asked.sizes.now) × (asked.number < total) }
     ensures { out.new ≡ base_shares specialist (inputs_of asked.entry) }
 {
     match prevailing(specialist, total, asked) {

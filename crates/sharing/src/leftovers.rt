@@ -1,6 +1,6 @@
 // The draw rule's leftovers: one each by turn round the roster, and then to the holders outside it.
 ghost use Rattle.std.specs.Prelude.{◌≡◌, true, [], ◌∷◌, take, if◌then◌else◌};
-ghost use Rattle.terms.specs.Numbers.{distinct as no-repeats, listed as stands-in};
+ghost use Rattle.terms.specs.Numbers.{distinct as no_repeats, listed as stands_in};
 ghost use Rattle.sharing.specs.Draw.{outside, unspent, with_leftovers};
 ghost use Rattle.sharing.specs.Made.{drawn};
 ghost use Rattle.sharing.specs.Making.{turns_at};
@@ -13,8 +13,8 @@ use terms::place;
 // Gives a party one contract more if it stands with size unspent, and says whether it did.
 fn give_one(party: u32, holders: &[u32], sizes: &[u32], shares: &mut [u32]) -> bool
     requires paired { Paired holders.now sizes.now shares.old }
-    requires once { no-repeats holders.now ≡ true }
-    ensures gave { result ≡ stands-in party (unspent holders.now sizes.now shares.old) }
+    requires once { no_repeats holders.now ≡ true }
+    ensures gave { result ≡ stands_in party (unspent holders.now sizes.now shares.old) }
     ensures shares { shares.new ≡ (if result then with_leftovers (party ∷ []) holders.now shares.old else shares.old) }
 {
     let at = place(holders, party);
@@ -36,7 +36,7 @@ pub(crate) fn give_by_turn(
     shares: &mut [u32],
 ) -> u32
     requires paired { Paired holders.now sizes.now shares.old }
-    requires once { (no-repeats holders.now ≡ true) × (turns_at state.old.turn (drawn roster.now) ≡ true) }
+    requires once { (no_repeats holders.now ≡ true) × (turns_at state.old.turn (drawn roster.now) ≡ true) }
     ensures { Turned (drawn roster.now) state.old.turn left holders.now sizes.now shares.old result state.new.turn shares.new }
 {
     let mut left = left;
@@ -60,7 +60,7 @@ pub(crate) fn give_outside(
     shares: &mut [u32],
 )
     requires paired { Paired holders.now sizes.now shares.old }
-    requires once { no-repeats holders.now ≡ true }
+    requires once { no_repeats holders.now ≡ true }
     ensures { shares.new ≡ with_leftovers (take left (outside (unspent holders.now sizes.now shares.old) (drawn roster.now))) holders.now shares.old }
 {
     let mut left = left;

@@ -1,10 +1,10 @@
 // Tests on numbers and on rows of them.
 ghost use Rattle.std.specs.Prelude.{◌≡◌, ◌≤◌, length};
-ghost use Rattle.terms.specs.Numbers.{all_within as each_within, distinct as no-repeats, listed as stands-in, place as place_of, within as in-range};
+ghost use Rattle.terms.specs.Numbers.{all_within as each_within, distinct as no_repeats, listed as stands_in, place as place_of, within as in_range};
 
 // Whether a number is from 1 to the most.
 pub fn within(most: u32, n: u32) -> bool
-    ensures { result ≡ in-range most n }
+    ensures { result ≡ in_range most n }
 {
     1 <= n && n <= most
 }
@@ -36,14 +36,14 @@ pub fn place(numbers: &[u32], n: u32) -> usize
 
 // Whether `n` is one of the numbers.
 pub fn listed(n: u32, numbers: &[u32]) -> bool
-    ensures { result ≡ stands-in n numbers.now }
+    ensures { result ≡ stands_in n numbers.now }
 {
     place(numbers, n) < numbers.len()
 }
 
 // Whether no number stands twice.
 pub fn distinct(numbers: &[u32]) -> bool
-    ensures { result ≡ no-repeats numbers.now }
+    ensures { result ≡ no_repeats numbers.now }
 {
     for (i, n) in numbers.iter().enumerate() {
         if listed(*n, &numbers[i + 1..]) {
