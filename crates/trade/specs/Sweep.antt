@@ -10,7 +10,7 @@ use Rattle.model.specs.Trading.{Rule, Swept, sweep}
 use Rattle.model.specs.Words.{Blocks}
 use Rattle.serving.specs.Filling.{all_filled_in}
 use Rattle.serving.specs.Stretch.{lower_all}
-use Rattle.trade.specs.State.{State, blocks_from, state, start, to_come}
+use Rattle.trade.specs.State.{State, blocks_from, start, to_come}
 use Rattle.trade.specs.declared.incoming.Incoming.{Incoming}
 use Rattle.trade.specs.declared.reached.Reached.{Reached}
 

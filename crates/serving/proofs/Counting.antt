@@ -1,16 +1,16 @@
--- A block has room for a fill, and after it for one fill less.
-use Rattle.std.proofs.Common.{◌≡◌, ℕ, ◌+◌, ◌<◌, ◌≤◌, List, [], ◌∷◌, length, get_or, set, refl, ap, ◌∙◌, arith, length-set}
+-- What a fill that is written into a block leaves: its count and total, its room for more, and the block of one fill more.
+use Rattle.std.proofs.Common.{◌≡◌, ℕ, ◌+◌, ◌<◌, ◌≤◌, List, [], ◌∷◌, ◌++◌, length, get_or, set, refl, ap, ◌∙◌, arith, length-set}
 use Rattle.std.proofs.lemmas.List.{get_or-set_same, get_or-set_other}
-use Rattle.blocks.specs.Blocks.{filled_by}
+use Rattle.blocks.specs.Blocks.{block, filled_by}
 use Rattle.blocks.specs.Reading.{count_in, total_in}
-use Rattle.blocks.specs.Writing.{Room, Filled-in}
 use Rattle.blocks.specs.declared.Fill.{Fill}
-use Rattle.serving.specs.Filling.{Roomy, all_filled_in}
+use Rattle.blocks.proofs.Filling.{pushed_block}
+use Rattle.serving.specs.Filling.{Room, Roomy, filled_in, all_filled_in}
 
 -- ---- the length, the count and the total of a row ----
 
-length_filled : (k : ℕ) (f : Fill) (b : List ℕ) → length (Filled-in k f b) ≡ length b
-unfolding Filled-in
+length_filled : (k : ℕ) (f : Fill) (b : List ℕ) → length (filled_in k f b) ≡ length b
+unfolding filled_in
 length_filled k f b = simp length-set
 
 count_set : (b : List ℕ) (i j x y m n : ℕ) → 0 < length b → get_or (set (set (set (set b i x) j y) 0 m) 1 n) 0 0 ≡ m
@@ -21,23 +21,23 @@ count_set b i j x y m n h =
 total_set : (b : List ℕ) (i j x y m n : ℕ) → 1 < length b → get_or (set (set (set (set b i x) j y) 0 m) 1 n) 1 0 ≡ n
 total_set b i j x y m n h = get_or-set_same (set (set (set b i x) j y) 0 m) 1 n 0 (simp length-set h)
 
-count_filled : (k : ℕ) (f : Fill) (b : List ℕ) → 1 < length b → count_in (Filled-in k f b) ≡ count_in b + 1
-unfolding Filled-in
+count_filled : (k : ℕ) (f : Fill) (b : List ℕ) → 1 < length b → count_in (filled_in k f b) ≡ count_in b + 1
+unfolding filled_in
 count_filled k f b l = count_set b _ _ _ _ _ _ (omega arith)
 
-total_filled : (k : ℕ) (f : Fill) (b : List ℕ) → 1 < length b → total_in (Filled-in k f b) ≡ total_in b + f.contracts
-unfolding Filled-in
+total_filled : (k : ℕ) (f : Fill) (b : List ℕ) → 1 < length b → total_in (filled_in k f b) ≡ total_in b + f.contracts
+unfolding filled_in
 total_filled k f b l = total_set b _ _ _ _ _ _ l
 
 length_all : (k : ℕ) (fs : List Fill) (b : List ℕ) → length (all_filled_in k fs b) ≡ length b
 length_all k [] b = refl
-length_all k (f ∷ fs) b = length_all k fs (Filled-in k f b) ∙ length_filled k f b
+length_all k (f ∷ fs) b = length_all k fs (filled_in k f b) ∙ length_filled k f b
 
 pub count_all : (k : ℕ) (fs : List Fill) (b : List ℕ) → 1 < length b → count_in (all_filled_in k fs b) ≡ count_in b + length fs
 count_all k [] b l = omega arith
 count_all k (f ∷ fs) b l =
     let e = length_filled k f b in
-    let a = count_all k fs (Filled-in k f b) (omega arith) in
+    let a = count_all k fs (filled_in k f b) (omega arith) in
     let d = count_filled k f b l in
     omega arith
 
@@ -45,9 +45,14 @@ total_all : (k : ℕ) (fs : List Fill) (b : List ℕ) → 1 < length b → total
 total_all k [] b l = omega arith
 total_all k (f ∷ fs) b l =
     let e = length_filled k f b in
-    let a = total_all k fs (Filled-in k f b) (omega arith) in
+    let a = total_all k fs (filled_in k f b) (omega arith) in
     let d = total_filled k f b l in
     omega arith
+
+-- a fill written behind the block of some fills makes the block of these and the fill
+pub filled_block : (k : ℕ) (fs : List Fill) (f : Fill) → length fs < k → filled_in k f (block k fs) ≡ block k (fs ++ f ∷ [])
+unfolding filled_in
+filled_block = pushed_block
 
 -- ---- room ----
 
@@ -63,7 +68,7 @@ room_less k m n m' n' b r le le' =
     let most = r.most in
     record { long = r.long; few = r.few; free = omega arith; most = omega arith }
 
-pub room_filled : (k m n m' n' : ℕ) (f : Fill) (b b' : List ℕ) → Roomy k m n b → b' ≡ Filled-in k f b → m' + 1 ≤ m → n' + f.contracts ≤ n →
+pub room_filled : (k m n m' n' : ℕ) (f : Fill) (b b' : List ℕ) → Roomy k m n b → b' ≡ filled_in k f b → m' + 1 ≤ m → n' + f.contracts ≤ n →
     Roomy k m' n' b'
 room_filled k m n m' n' f b b' r e le le' =
     let long = r.long in

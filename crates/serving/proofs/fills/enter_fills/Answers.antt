@@ -12,7 +12,7 @@ loop-i-preserved g c =
     elim c.if-contracts-gt0.branch [
       | then-contracts-gt0 w ↦
           let f = w.left-is in
-          let row = w.block-is ∙ w.add_unchecked.ensures.row in (
+          let row = w.block-is ∙ w.write_fill.ensures in (
             enter_some g.R.Standing.shown c.args.places c.args.records.now c.args.shares.now c.loop-i.block c.if-contracts-gt0.block _ c.loop-i.i
                 w.holder-holder.result w.index-records-i.result (omega arith) (omega arith) w.index-records-i.is w.holder-holder.ensures w.if-contracts-gt0.true
                 row c.loop-i.invariant.0,
@@ -39,8 +39,8 @@ returns g c =
       block = enter_all g.R.Standing.shown c.args.places c.args.records.now c.args.shares.now c.loop-i.block _ c.loop-i.i (omega arith) c.loop-i.invariant.0;
     }
 
-pub add_unchecked-requires : goal.add_unchecked-requires
-add_unchecked-requires g c =
+pub write_fill-requires : goal.write_fill-requires
+write_fill-requires g c =
     let s = sum_more c.args.shares.now c.loop-i.i (omega arith) in
     room_for c.args.places _ c.loop-i.left _ c.loop-i.block c.loop-i.invariant.3 (omega arith) (omega arith)
 

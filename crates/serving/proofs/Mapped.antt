@@ -1,5 +1,5 @@
 -- Lists made place by place.
-use Rattle.std.proofs.Common.{◌≡◌, ℕ, zero, suc, ◌-◌, ◌<◌, ◌≤◌, List, [], ◌∷◌, map, length, get_or, refl, arith}
+use Rattle.std.proofs.Common.{◌≡◌, ℕ, zero, suc, ◌<◌, ◌≤◌, List, [], ◌∷◌, map, length, get_or, refl, arith}
 use Rattle.std.proofs.lemmas.List.{nil_from_length}
 use Rattle.sharing.specs.Rule.{EachWithin}
 use Rattle.kept.specs.Standing.{Interest}

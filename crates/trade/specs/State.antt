@@ -1,6 +1,6 @@
 -- What a Trade works on, and how far it has come.
 use Rattle.std.specs.Prelude.{ℕ, ◌≤◌, List, map, length, drop}
-use Rattle.std.specs.Borrow.{Bor}
+use Rattle.std.specs.Borrow.{MutBor}
 use Rattle.kept.specs.Orders.{order_shown}
 use Rattle.kept.specs.Quotes.{quote_shown}
 use Rattle.kept.specs.declared.Order.{Order}
@@ -26,8 +26,8 @@ abbrev pub state : {S T : Type 0} → List Order → List Quote → List Order �
 state cs ms fs s t c m f = record { customers = cs; makers = ms; firms = fs; makers_rule = s; firms_rule = t; blocks = blocks_from c m f }
 
 -- what lies behind references to the parts of a state
-abbrev pub state_of : {S T : Type 0} → Bor (List Order) → Bor (List Quote) → Bor (List Order) → Bor S → Bor T →
-    (customers makers firms : Bor (List ℕ)) → State S T
+abbrev pub state_of : {S T : Type 0} → MutBor (List Order) → MutBor (List Quote) → MutBor (List Order) → MutBor S → MutBor T →
+    (customers makers firms : MutBor (List ℕ)) → State S T
 state_of cs ms fs s t c m f = state cs.now ms.now fs.now s.now t.now c.now m.now f.now
 
 -- the places that a Trade has come to are inside its tables, or right behind them

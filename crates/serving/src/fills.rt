@@ -4,11 +4,25 @@ ghost use Rattle.terms.specs.Numbers.{sum};
 ghost use Rattle.sharing.specs.Rule.{EachWithin};
 ghost use Rattle.model.specs.Fills.{fills};
 ghost use Rattle.model.specs.Tables.{sizes_of};
-ghost use Rattle.serving.specs.Filling.{Roomy, all_filled_in};
+ghost use Rattle.serving.specs.Filling.{Room, Roomy, all_filled_in, filled_in};
 ghost use Rattle.serving.specs.Stretch.{lowered_each};
 
-use blocks::{Fill, add_unchecked};
+use blocks::Fill;
 use kept::Standing;
+
+// Writes a fill behind those of a block that has room for it.
+fn write_fill(block: &mut [u32], places: usize, fill: Fill)
+    requires { Room places fill.contracts block.old }
+    ensures { block.new ≡ filled_in places fill block.old }
+{
+    let count = block[0];
+    let total = block[1];
+    let at = count as usize;
+    block[2 + at] = fill.holder;
+    block[2 + places + at] = fill.contracts;
+    block[0] = count + 1;
+    block[1] = total + fill.contracts;
+}
 
 // Enters each share above 0 as a fill, and says how many of the contracts are left.
 pub(crate) fn enter_fills<R: Standing + Copy>(
@@ -28,7 +42,7 @@ pub(crate) fn enter_fills<R: Standing + Copy>(
         let contracts = shares[i];
         if contracts > 0 {
             let holder = records[i].holder();
-            add_unchecked(block, places, Fill { holder, contracts });
+            write_fill(block, places, Fill { holder, contracts });
             left -= contracts;
         }
     }

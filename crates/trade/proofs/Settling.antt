@@ -4,12 +4,11 @@ use Rattle.std.proofs.lemmas.List.{append_assoc, append-nil, length-map, length_
 use Rattle.blocks.specs.Blocks.{block}
 use Rattle.blocks.specs.Reading.{count_in}
 use Rattle.blocks.specs.declared.Fill.{Fill}
-use Rattle.blocks.proofs.Filling.{filled-block}
 use Rattle.kept.specs.Standing.{Interest, with_left}
 use Rattle.model.specs.Fills.{given_to, less}
 use Rattle.serving.specs.Filling.{all_filled_in}
 use Rattle.serving.specs.Stretch.{lower_all}
-use Rattle.serving.proofs.Counting.{count_all}
+use Rattle.serving.proofs.Counting.{count_all, filled_block}
 use Rattle.trade.specs.Compaction.{Compacts}
 use Rattle.trade.specs.Rows.{SettlesRow}
 use Rattle.trade.proofs.Leaving.{kept_less}
@@ -20,7 +19,7 @@ all_block : (k : ℕ) (fs gs : List Fill) → length gs + length fs ≤ k → al
 all_block k [] gs l = ap (block k) (sym (append-nil gs))
 all_block k (f ∷ fs) gs l =
     let p = length_push gs f in
-    ap (all_filled_in k fs) (filled-block k gs f (omega arith)) ∙ all_block k fs (gs ++ f ∷ []) (omega arith) ∙ ap (block k) (append_assoc gs (f ∷ []) fs)
+    ap (all_filled_in k fs) (filled_block k gs f (omega arith)) ∙ all_block k fs (gs ++ f ∷ []) (omega arith) ∙ ap (block k) (append_assoc gs (f ∷ []) fs)
 
 -- fills written into the block of none make their own block
 pub block_made : (k : ℕ) (fs : List Fill) (z b : List ℕ) → z ≡ block k [] → b ≡ all_filled_in k fs z → count_in b ≤ k → b ≡ block k fs
