@@ -1,12 +1,14 @@
 -- What the program tests of a row, as it cuts the row, is what is asked of a written block.
-use Rattle.std.proofs.Common.{◌≡◌, ℕ, ◌+◌, ◌-◌, ◌≤◌, Bool, true, not, ◌&&◌, eqb, ltb, leb, List, [], ◌∷◌, ◌++◌, length, take, drop, Some, Ok, sym, ap, ◌∙◌, arith}
+use Rattle.std.proofs.Common.{◌≡◌, ℕ, ◌+◌, ◌-◌, ◌≤◌, Bool, true, not, ◌&&◌, eqb, ltb, leb, List, [], ◌∷◌, ◌++◌, length, take, drop, Some, None, Ok, Option, sym, ap, ◌∙◌, arith}
 use Rattle.std.proofs.lemmas.List.{length_push, take-take}
 use Rattle.std.proofs.lemmas.Bool.{and_parts, le-leb}
 use Rattle.terms.specs.Numbers.{sum, listed, within}
+use Rattle.std.specs.Option.{ok_or}
+use Rattle.terms.specs.declared.refusal.Refusal.TheVariants.{WrongLength}
 use Rattle.blocks.specs.declared.fill.Fill.{Fill}
 use Rattle.blocks.specs.declared.layout.Layout.{Layout}
 use Rattle.blocks.specs.declared.layout.Layout.TheVariants.{Orders, Makers}
-use Rattle.blocks.specs.Layouts.{places_of, most_holder, layout_of}
+use Rattle.blocks.specs.Layouts.{places_of, most_holder, layout_of, layout_or_refusal}
 use Rattle.blocks.specs.Blocks.{holders_of, filled_by, block, fit}
 use Rattle.blocks.specs.Reading.{count_in, total_in, holders_in, contracts_in, beside, fills_in, zeros, rest_zero, written, reads, reads_as}
 use Rattle.blocks.specs.Writing.{Room, with_fill, added, added_as}
@@ -14,6 +16,14 @@ use Rattle.blocks.proofs.Parts.{holders_beside, contracts_beside, length_beside}
 use Rattle.blocks.proofs.Fitting.{and_assoc, fit_parts, fit_push}
 use Rattle.blocks.proofs.Filling.{filled_push}
 use Rattle.blocks.proofs.Agreement.{length_by_layout, written_parts, firsts, block_of_written}
+
+-- a layout that was read is that of the length
+pub layout_read : (n : ℕ) (l : Layout) → Ok l ≡ layout_or_refusal n → Some l ≡ layout_of n
+layout_read n l e = go (layout_of n) e
+  where
+    go : (o : Option Layout) → Ok l ≡ ok_or o WrongLength → Some l ≡ o
+    go None e = cc
+    go (Some k) e = grind arith
 
 -- ---- the row as the program cuts it: p is the places as the program has them ----
 
@@ -108,13 +118,10 @@ room l b f p e o t =
     let one = length_push fs f in
     let more = filled_push fs f in
     let few = few_places l in
-    record {
-      fills = fs;
-      shows = sym (block_of_written l b (length_by_layout (length b) l o) wf.0) ∙ ap (λ m. block m fs) (sym e);
-      few = omega arith;
-      free = omega arith;
-      most = omega arith;
-    }
+    let shown = sym (block_of_written l b (length_by_layout (length b) l o) wf.0) in
+    let count : count_in b ≡ length fs = ap count_in shown in
+    let total : total_in b ≡ filled_by fs = ap total_in shown in
+    record { long = length_by_layout (length b) l o ∙ ap (λ m. 2 + m + m) (sym e); few = omega arith; free = omega arith; most = omega arith }
 
 pub added_ok : (l : Layout) (b after : List ℕ) (f : Fill) (p : ℕ) → p ≡ places_of l → Some l ≡ layout_of (length b)
     → true ≡ (written l b && fit l (with_fill l f b))

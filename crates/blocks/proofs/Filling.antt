@@ -1,10 +1,10 @@
 -- A block filled one fill at a time.
-use Rattle.std.proofs.Common.{◌≡◌, ℕ, suc, ◌+◌, ◌-◌, ◌<◌, ◌≤◌, List, [], ◌∷◌, ◌++◌, length, get_or, set, replicate, sym, ap, ◌∙◌, arith}
+use Rattle.std.proofs.Common.{◌≡◌, ℕ, suc, ◌+◌, ◌-◌, ◌<◌, List, [], ◌∷◌, ◌++◌, length, set, replicate, sym, ap, ◌∙◌, arith}
 use Rattle.std.proofs.lemmas.List.{append_assoc, length-map, length-set, length_push, map_push, set_at, set-append_left, set-append_right, replicate-append-replicate}
 use Rattle.blocks.specs.declared.fill.Fill.{Fill}
 use Rattle.blocks.specs.Blocks.{holders_of, contracts_of, filled_by, padded, block}
-use Rattle.blocks.specs.Writing.{Room}
-use Rattle.blocks.proofs.Parts.{length_padded, length_block}
+use Rattle.blocks.specs.Writing.{filled_in}
+use Rattle.blocks.proofs.Parts.{length_padded}
 use Rattle.blocks.proofs.Fitting.{sum_push}
 
 -- zeros alone are the block of no fills
@@ -15,10 +15,6 @@ blank_block k n e =
     ap (λ m. replicate m 0) i ∙ ap (λ r. 0 ∷ 0 ∷ r) (sym (replicate-append-replicate k k 0))
     ∙ ap (λ m. 0 ∷ 0 ∷ (replicate m 0 ++ replicate m 0)) z
 
--- the row after the four writes of one fill
-abbrev pub pushed : (places holder contracts : ℕ) → List ℕ → List ℕ
-pushed k h n b = set (set (set (set b (2 + get_or b 0 0) h) (2 + k + get_or b 0 0) n) 0 (get_or b 0 0 + 1)) 1 (get_or b 1 0 + n)
-
 padded_push : (k : ℕ) (xs : List ℕ) (x c : ℕ) → length xs ≡ c → c < k → set (padded k xs) c x ≡ padded k (xs ++ x ∷ [])
 padded_push k xs x c e l =
     let j : ℕ = k - c - 1 in
@@ -28,8 +24,10 @@ padded_push k xs x c e l =
     ∙ sym (append_assoc xs (x ∷ []) (replicate j 0)) ∙ ap (λ m. (xs ++ x ∷ []) ++ replicate m 0) (sym b)
 
 -- both arrays written at their place c
-pushed_parts : (k c t h n : ℕ) (P Q : List ℕ) → length P ≡ k → c < k → pushed k h n (c ∷ t ∷ (P ++ Q)) ≡ (c + 1) ∷ (t + n) ∷ (set P c h ++ set Q c n)
-pushed_parts k c t h n P Q e l =
+written_parts : (k c t h n : ℕ) (P Q : List ℕ) → length P ≡ k → c < k →
+    filled_in k (record { holder = h; contracts = n }) (c ∷ t ∷ (P ++ Q)) ≡ (c + 1) ∷ (t + n) ∷ (set P c h ++ set Q c n)
+unfolding filled_in
+written_parts k c t h n P Q e l =
     let i : 2 + c ≡ suc (suc c) = omega arith in
     let j : 2 + k + c ≡ suc (suc (k + c)) = omega arith in
     let lp : length (set P c h) ≡ k = length-set P c h ∙ e in
@@ -44,9 +42,9 @@ pushed_parts k c t h n P Q e l =
 pub filled_push : (fs : List Fill) (f : Fill) → filled_by (fs ++ f ∷ []) ≡ filled_by fs + f.contracts
 filled_push fs f = rw (map_push (λ g. g.contracts) fs f) (sum_push (contracts_of fs) f.contracts)
 
--- a fill pushed to the block of some fills makes the block of these and the fill
-pub pushed_block : (k : ℕ) (fs : List Fill) (f : Fill) → length fs < k → pushed k f.holder f.contracts (block k fs) ≡ block k (fs ++ f ∷ [])
-pushed_block k fs f l =
+-- a fill written into the block of some fills makes the block of these and the fill
+pub filled_block : (k : ℕ) (fs : List Fill) (f : Fill) → length fs < k → filled_in k f (block k fs) ≡ block k (fs ++ f ∷ [])
+filled_block k fs f l =
     let hs : List ℕ = holders_of fs in
     let ns : List ℕ = contracts_of fs in
     let c : ℕ = length fs in
@@ -59,14 +57,8 @@ pushed_block k fs f l =
     padded_push k hs f.holder c lh l ∙ ap (padded k) (sym (map_push (λ g. g.holder) fs f)) in
     let e4 : set (padded k ns) c f.contracts ≡ padded k (contracts_of all) =
     padded_push k ns f.contracts c ln l ∙ ap (padded k) (sym (map_push (λ g. g.contracts) fs f)) in
-    pushed_parts k c (filled_by fs) f.holder f.contracts (padded k hs) (padded k ns) (length_padded k hs (omega arith)) l
+    written_parts k c (filled_by fs) f.holder f.contracts (padded k hs) (padded k ns) (length_padded k hs (omega arith)) l
     ∙ ap (λ z. z ∷ (filled_by fs + f.contracts) ∷ (set (padded k hs) c f.holder ++ set (padded k ns) c f.contracts)) e1
     ∙ ap (λ z. length all ∷ z ∷ (set (padded k hs) c f.holder ++ set (padded k ns) c f.contracts)) e2
     ∙ ap (λ z. length all ∷ filled_by all ∷ (z ++ set (padded k ns) c f.contracts)) e3
     ∙ ap (λ z. length all ∷ filled_by all ∷ (padded k (holders_of all) ++ z)) e4
-
--- what the writes of a fill need of a row that has room for it
-pub room_facts : (k n : ℕ) (b : List ℕ) → Room k n b → (length b ≡ 2 + k + k) × (get_or b 0 0 < k) × (get_or b 1 0 + n ≤ 999999)
-room_facts k n b r =
-    let l = length_block k r.fills (omega arith) in
-    (ap length r.shows ∙ l, rw r.shows r.free, rw r.shows r.most)

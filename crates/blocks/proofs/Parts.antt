@@ -1,8 +1,8 @@
 -- The parts of a block: fills as holders beside contracts, zeros behind them, and both arrays cut out again.
-use Rattle.std.proofs.Common.{◌≡◌, ℕ, zero, suc, ◌+◌, ◌-◌, ◌<◌, ◌≤◌, true, false, ◌&&◌, eqb, List, [], ◌∷◌, ◌++◌, length, get_or, take, drop, replicate, Some, None, sym, refl, ap, ◌∙◌, arith}
+use Rattle.std.proofs.Common.{◌≡◌, ℕ, zero, suc, ◌+◌, ◌-◌, ◌<◌, ◌≤◌, true, eqb, List, [], ◌∷◌, ◌++◌, length, get_or, take, drop, replicate, Some, None, sym, refl, ap, ◌∙◌, arith}
 use Rattle.std.specs.List.{slice_get}
-use Rattle.std.proofs.lemmas.List.{length-append, length-map, length-replicate, length-take, length-drop, take_at, drop_at, take_all, take-append-drop, at_drop_more}
-use Rattle.std.proofs.lemmas.Bool.{eqb-true, eq-eqb, ne_eqb, and_parts}
+use Rattle.std.proofs.lemmas.List.{length-append, length-map, length-replicate, length-take, length-drop, take_at, drop_at, take_all, take-append-drop}
+use Rattle.std.proofs.lemmas.Bool.{eqb-true, and_parts}
 use Rattle.blocks.specs.declared.fill.Fill.{Fill}
 use Rattle.blocks.specs.Blocks.{holders_of, contracts_of, padded, block}
 use Rattle.blocks.specs.Reading.{beside, zeros, count_in, total_in, holders_in, contracts_in, fills_in}
@@ -60,16 +60,6 @@ zeros_are (x ∷ xs) e =
     let h : x ≡ 0 = eqb-true x 0 p.0 in
     let t = zeros_are xs p.1 in
     ap (λ y. y ∷ xs) h ∙ ap (λ ys. 0 ∷ ys) t
-
-pub zeros_off : (xs : List ℕ) (i : ℕ) → i < length xs → (get_or xs i 0 ≡ 0 → ⊥) → zeros (drop i xs) ≡ false
-zeros_off xs i lt n =
-    let here : zeros (drop i xs) ≡ (eqb (get_or xs i 0) 0 && zeros (drop (i + 1) xs)) = at_drop_more zeros xs i 0 lt in
-    here ∙ rw (ne_eqb (get_or xs i 0) 0 n)
-
-pub zeros_on : (xs : List ℕ) (i : ℕ) → i < length xs → get_or xs i 0 ≡ 0 → zeros (drop i xs) ≡ zeros (drop (i + 1) xs)
-zeros_on xs i lt e =
-    let here : zeros (drop i xs) ≡ (eqb (get_or xs i 0) 0 && zeros (drop (i + 1) xs)) = at_drop_more zeros xs i 0 lt in
-    here ∙ rw (eq-eqb (get_or xs i 0) 0 e)
 
 -- ---- a row with zeros behind it ----
 

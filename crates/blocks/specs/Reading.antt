@@ -1,5 +1,6 @@
 -- What is read of a row of numbers: the fills of a written block, or a refusal.
-use Rattle.std.specs.Prelude.{ℕ, ◌+◌, Bool, true, cond, ◌&&◌, List, [], ◌∷◌, length, take, drop, Some, None, Ok, Err, Option, Result, ◌==◌, nat_le, slice_index}
+use Rattle.std.specs.Prelude.{ℕ, ◌+◌, Bool, cond, ◌&&◌, List, [], ◌∷◌, length, take, drop, Some, None, Ok, Err, Option, Result, ◌==◌, nat_le, slice_index}
+use Rattle.std.specs.List.{list_all}
 use Rattle.terms.specs.declared.refusal.Refusal.{Refusal}
 use Rattle.terms.specs.Refusals.{number_of}
 use Rattle.blocks.specs.declared.fill.Fill.{Fill}
@@ -33,8 +34,7 @@ fills_in k b = beside (take (count_in b) (holders_in k b)) (take (count_in b) (c
 
 -- zeros alone
 abbrev pub zeros : List ℕ → Bool
-zeros [] = true
-zeros (n ∷ ns) = n == 0 && zeros ns
+zeros ns = list_all (λ n. n == 0) ns
 
 -- the entries of both arrays past the fills are 0
 abbrev pub rest_zero : (places : ℕ) → List ℕ → Bool

@@ -1,12 +1,12 @@
 -- What clearing a block and adding a fill to it leave, or how they are refused.
-use Rattle.std.specs.Prelude.{◌≡◌, ℕ, ◌+◌, ◌<◌, ◌≤◌, cond, ◌&&◌, List, [], ◌∷◌, ◌++◌, length, Some, None, Ok, Err, Option, Result}
+use Rattle.std.specs.Prelude.{◌≡◌, ℕ, ◌+◌, ◌<◌, ◌≤◌, cond, ◌&&◌, List, [], ◌∷◌, ◌++◌, length, Some, None, Ok, Err, Option, Result, slice_set}
 use Rattle.terms.specs.declared.refusal.Refusal.{Refusal}
 use Rattle.terms.specs.Refusals.{number_of}
 use Rattle.blocks.specs.declared.fill.Fill.{Fill}
 use Rattle.blocks.specs.declared.layout.Layout.{Layout}
 use Rattle.blocks.specs.Layouts.{places_of, layout_of}
-use Rattle.blocks.specs.Blocks.{block, filled_by, fit}
-use Rattle.blocks.specs.Reading.{fills_in, written}
+use Rattle.blocks.specs.Blocks.{block, fit}
+use Rattle.blocks.specs.Reading.{count_in, total_in, fills_in, written}
 
 -- the row after it is cleared: the block of no fills; 16 for a wrong length
 abbrev pub cleared_as : Option Layout → Result (List ℕ) ℕ
@@ -34,10 +34,14 @@ abbrev pub left_by : Result (Unit {0}) Refusal → (after : List ℕ) → Result
 left_by (Ok _) after = Ok after
 left_by (Err e) after = Err (number_of e)
 
--- a row with room for a fill of so many contracts: the block of some fills, a place free, and the total not passed
+-- a row with room for a fill of so many contracts: it is as long as a block of its places, a place is free, and the total is not passed
 pub record Room (places contracts : ℕ) (b : List ℕ) : Type 0 where
-  pub fills : List Fill
-  pub shows : b ≡ block places fills
+  pub long : length b ≡ 2 + places + places
   pub few : places ≤ 64
-  pub free : length fills < places
-  pub most : filled_by fills + contracts ≤ 999999
+  pub free : count_in b < places
+  pub most : total_in b + contracts ≤ 999999
+
+-- the row after the four writes of a fill: its holder, its contracts, the count, the total
+unfoldable pub filled_in : (places : ℕ) → Fill → List ℕ → List ℕ
+filled_in k f b =
+    slice_set (slice_set (slice_set (slice_set b (2 + count_in b) f.holder) (2 + k + count_in b) f.contracts) 0 (count_in b + 1)) 1 (total_in b + f.contracts)

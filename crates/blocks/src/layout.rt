@@ -1,8 +1,8 @@
 // The two layouts of a block, told apart by its length.
 ghost use Rattle.std.specs.Prelude.{◌≡◌};
-ghost use Rattle.blocks.specs.Layouts.{layout_of, most_holder, places_of};
+ghost use Rattle.blocks.specs.Layouts.{layout_or_refusal, most_holder, places_of};
 
-use terms::{MOST_ORDER_NUMBER, MOST_PARTY};
+use terms::{MOST_ORDER_NUMBER, MOST_PARTY, Refusal};
 
 // The numbers of a block: how many fills, their total, and two arrays of 64 or 16 entries.
 pub const ORDER_BLOCK: usize = 130;
@@ -17,18 +17,22 @@ pub enum Layout {
     Makers,
 }
 
-impl Layout {
-    // The layout of a block of so many numbers.
-    pub fn of_length(len: usize) -> Option<Layout>
-        ensures { result ≡ layout_of len }
-    {
+impl TryFrom<usize> for Layout {
+    type Error = Refusal;
+
+    ghost try_from_gives = { λ len r. r ≡ layout_or_refusal len };
+
+    // The layout of a block of so many numbers; another length is refused with 16.
+    fn try_from(len: usize) -> Result<Layout, Refusal> {
         match len {
-            ORDER_BLOCK => Some(Layout::Orders),
-            MAKER_BLOCK => Some(Layout::Makers),
-            _ => None,
+            ORDER_BLOCK => Ok(Layout::Orders),
+            MAKER_BLOCK => Ok(Layout::Makers),
+            _ => Err(Refusal::WrongLength),
         }
     }
+}
 
+impl Layout {
     // How many fills a block can show.
     pub fn places(self) -> usize
         ensures { result ≡ places_of self }

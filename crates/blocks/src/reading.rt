@@ -1,7 +1,7 @@
 // Reading a block: which rows of numbers are written blocks, and the fills that they show.
 ghost use Rattle.std.specs.Prelude.{◌≡◌, ◌+◌, ◌≤◌, ◌&&◌, length, drop, ◌==◌};
 ghost use Rattle.std.specs.List.{slice_get};
-ghost use Rattle.terms.specs.Numbers.{sum};
+ghost use Rattle.terms.specs.Numbers.{sum as added_up};
 ghost use Rattle.blocks.specs.Layouts.{places_of};
 ghost use Rattle.blocks.specs.Blocks.{contracts_fit, fit, holders_fit};
 ghost use Rattle.blocks.specs.Laws.{ReadsBack, ReadsOnlyBlocks};
@@ -9,7 +9,7 @@ ghost use Rattle.blocks.specs.Reading.{answered, beside, reads, shown, written, 
 
 use crate::fill::Fill;
 use crate::layout::Layout;
-use terms::{MOST_CONTRACTS, MOST_TRADED, Refusal, all_within, distinct};
+use terms::{MOST_CONTRACTS, MOST_TRADED, Refusal, all_within, distinct, sum};
 
 // The fills of a written block, handed out one by one.
 #[derive(Clone, Copy)]
@@ -50,9 +50,7 @@ pub fn read(block: &[u32]) -> Result<Written<'_>, Refusal>
     ensures back { ReadsBack block.now (answered result) }
     ensures only { ReadsOnlyBlocks block.now (answered result) }
 {
-    let Some(layout) = Layout::of_length(block.len()) else {
-        return Err(Refusal::WrongLength);
-    };
+    let layout = Layout::try_from(block.len())?;
     if !is_written(layout, block) {
         return Err(Refusal::NotWritten);
     }
@@ -86,7 +84,7 @@ pub(crate) fn is_written(layout: Layout, block: &[u32]) -> bool
 // Whether holders beside contracts are fills that fit the layout, with this total.
 fn are_fit(layout: Layout, holders: &[u32], contracts: &[u32], total: u32) -> bool
     requires { (length holders.now ≡ length contracts.now) × (length holders.now ≤ places_of layout) }
-    ensures { result ≡ (fit layout (beside holders.now contracts.now) && total == sum contracts.now) }
+    ensures { result ≡ (fit layout (beside holders.now contracts.now) && total == added_up contracts.now) }
 {
     are_holders(layout, holders) && are_contracts(contracts, total)
 }
@@ -101,11 +99,12 @@ fn are_holders(layout: Layout, holders: &[u32]) -> bool
 // Whether each number of contracts is in range, and so is the total, which is theirs.
 fn are_contracts(contracts: &[u32], total: u32) -> bool
     requires { length contracts.now ≤ 64 }
-    ensures { result ≡ (contracts_fit contracts.now && total == sum contracts.now) }
+    ensures { result ≡ (contracts_fit contracts.now && total == added_up contracts.now) }
 {
-    all_within(MOST_CONTRACTS, contracts)
-        && total <= MOST_TRADED
-        && total_of(contracts) == u64::from(total)
+    if !all_within(MOST_CONTRACTS, contracts) {
+        return false;
+    }
+    total <= MOST_TRADED && sum(contracts) == total
 }
 
 // Whether the entries of both arrays from a place on are 0.
@@ -116,26 +115,9 @@ fn are_zero_from(count: usize, holders: &[u32], contracts: &[u32]) -> bool
     all_zero(&holders[count..]) && all_zero(&contracts[count..])
 }
 
-// All numbers added up: few enough that no sum of them is lost.
-fn total_of(numbers: &[u32]) -> u64
-    requires { length numbers.now ≤ 64 }
-    ensures { result ≡ sum numbers.now }
-{
-    let mut total: u64 = 0;
-    for n in numbers {
-        total += u64::from(*n);
-    }
-    total
-}
-
 // Whether every number is 0.
 fn all_zero(numbers: &[u32]) -> bool
     ensures { result ≡ zeros numbers.now }
 {
-    for n in numbers {
-        if *n != 0 {
-            return false;
-        }
-    }
-    true
+    numbers.iter().all(|n| *n == 0)
 }

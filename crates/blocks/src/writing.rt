@@ -5,7 +5,7 @@ ghost use Rattle.blocks.specs.declared.fill.Fill.{Fill as One};
 ghost use Rattle.blocks.specs.Layouts.{most_holder, places_of};
 ghost use Rattle.blocks.specs.Blocks.{block as block_of, fit};
 ghost use Rattle.blocks.specs.Reading.{written};
-ghost use Rattle.blocks.specs.Writing.{Room, added, cleared, left_by, with_fill};
+ghost use Rattle.blocks.specs.Writing.{Room, added, cleared, filled_in, left_by, with_fill};
 
 use crate::fill::Fill;
 use crate::layout::Layout;
@@ -17,9 +17,7 @@ pub fn clear(block: &mut [u32]) -> Result<(), Refusal>
     ensures left { left_by result block.new ≡ cleared block.old }
     ensures kept { OnErr result (block.new ≡ block.old) }
 {
-    if Layout::of_length(block.len()).is_none() {
-        return Err(Refusal::WrongLength);
-    }
+    Layout::try_from(block.len())?;
     blank(block);
     Ok(())
 }
@@ -29,9 +27,7 @@ pub fn blank(block: &mut [u32])
     ensures zero { block.new ≡ replicate (length block.old) 0 }
     ensures block { (places : ℕ) → length block.old ≡ 2 + places + places → block.new ≡ block_of places [] }
 {
-    for n in block.iter_mut() {
-        *n = 0;
-    }
+    block.fill(0);
 }
 
 // Adds a fill behind those of a written block. Refused with 16 for the block's length,
@@ -40,13 +36,11 @@ pub fn add(block: &mut [u32], fill: Fill) -> Result<(), Refusal>
     ensures left { left_by result block.new ≡ added fill block.old }
     ensures kept { OnErr result (block.new ≡ block.old) }
 {
-    let Some(layout) = Layout::of_length(block.len()) else {
-        return Err(Refusal::WrongLength);
-    };
+    let layout = Layout::try_from(block.len())?;
     if !takes(layout, block, fill) {
         return Err(Refusal::NotWritten);
     }
-    add_unchecked(block, layout.places(), fill.holder, fill.contracts);
+    add_unchecked(block, layout.places(), fill);
     Ok(())
 }
 
@@ -81,15 +75,16 @@ fn takes_contracts(total: u32, contracts: u32) -> bool
 }
 
 // Adds a fill behind those of a block that has room for it, and checks nothing.
-pub fn add_unchecked(block: &mut [u32], places: usize, holder: u32, contracts: u32)
-    requires { Room places contracts block.old }
-    ensures { (fs : List One) → block.old ≡ block_of places fs → block.new ≡ block_of places (fs ++ record { holder = holder; contracts = contracts } ∷ []) }
+pub fn add_unchecked(block: &mut [u32], places: usize, fill: Fill)
+    requires { Room places fill.contracts block.old }
+    ensures writes { block.new ≡ filled_in places fill block.old }
+    ensures block { (fs : List One) → block.old ≡ block_of places fs → block.new ≡ block_of places (fs ++ fill ∷ []) }
 {
     let count = block[0];
     let total = block[1];
     let at = count as usize;
-    block[2 + at] = holder;
-    block[2 + places + at] = contracts;
+    block[2 + at] = fill.holder;
+    block[2 + places + at] = fill.contracts;
     block[0] = count + 1;
-    block[1] = total + contracts;
+    block[1] = total + fill.contracts;
 }

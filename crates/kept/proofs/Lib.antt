@@ -1,6 +1,4 @@
 -- Lemmas of this crate. Those on rank order serve crates above as well.
-mod Leading
-mod Counting
 mod Moving
 pub mod Entering
 mod Keeping

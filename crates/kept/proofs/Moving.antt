@@ -1,45 +1,22 @@
--- Rows while places are cleared, and while records move one place on or up.
-use Rattle.std.proofs.Common.{◌≡◌, ℕ, ◌+◌, ◌-◌, ◌<◌, ◌≤◌, List, [], ◌∷◌, ◌++◌, length, get_or, take, drop, set, replicate, sym, ap, ◌∙◌, arith, rules}
-use Rattle.std.proofs.lemmas.List.{places, same_lists, get_or-set_same, set_at, drop_more, replicate_more, length-replicate, append_assoc}
+-- Rows after a record was put in or taken out by a turn of those behind it.
+use Rattle.std.proofs.Common.{◌≡◌, ℕ, ◌+◌, ◌-◌, ◌<◌, ◌≤◌, List, ◌∷◌, ◌++◌, length, take, drop, set, refl, ap, ◌∙◌, arith, rules}
+use borrow.Rule.Slice.PartMut.{put_mid, mid_of}
+use Rattle.std.proofs.lemmas.List.{places, same_lists, get_or-set_same}
 use Rattle.std.proofs.lemmas.Bool.{cases_eq}
 use Rattle.std.specs.List.{insert, remove}
-use Rattle.kept.specs.Slots.{moved_back, moved_up}
 
-module _ {R : Type 0} (xs ys : List R) where
-  -- ---- clearing ----
+module _ {R : Type 0} (xs : List R) (place count : ℕ) (x : R) where
+  pub put_in : (ys : List R) → (let mid = mid_of place (count + 1 - place) xs in ys ≡ drop (length mid - 1) mid ++ take (length mid - 1) mid) →
+      place ≤ count → count < length xs → set (put_mid place (count + 1 - place) xs ys) place x ≡ insert (take count xs) place x ++ drop (count + 1) xs
+  put_in ys turned le lt =
+      ap (λ l. set (put_mid place (count + 1 - place) xs l) place x) turned
+      ∙ same_lists _ _ (search (rules, places)) (λ k d h. grind (arith, places, get_or-set_same, cases_eq k place))
 
-  pub clear_more : (blank : R) (i : ℕ) → i < length xs → ys ≡ replicate i blank ++ drop i xs → set ys i blank ≡ replicate (i + 1) blank ++ drop (i + 1) xs
-  clear_more b i lt e =
-      ap (λ l. set l i b) (e ∙ ap (λ l. replicate i b ++ l) (drop_more xs i b lt))
-      ∙ set_at (replicate i b) (get_or xs i b) (drop (i + 1) xs) b i (length-replicate i b)
-      ∙ sym (append_assoc (replicate i b) (b ∷ []) (drop (i + 1) xs))
-      ∙ ap (λ l. l ++ drop (i + 1) xs) (replicate_more i b)
+  -- the turn by one, written `n`
+  turned_out : (n : ℕ) → n ≡ 1 → place < count → count ≤ length xs → (let mid = mid_of place (count - place) xs in
+      set (put_mid place (count - place) xs (drop n mid ++ take n mid)) (count - 1) x ≡ remove (take count xs) place ++ x ∷ drop count xs)
+  turned_out n one lt le = same_lists _ _ (search (rules, places)) (λ k d h. grind (arith, places, get_or-set_same, cases_eq k (count - 1)))
 
-  -- ---- moving ----
-
-  pub back_none : (to : ℕ) → to < length xs → xs ≡ moved_back to to xs
-  back_none to lt = same_lists _ _ (search (rules, places)) (λ k d h. grind (arith, places))
-
-  pub back_more : (i to : ℕ) (x : R) → 0 < i → i ≤ to → to < length xs → ys ≡ moved_back i to xs → x ≡ get_or ys (i - 1) x → set ys (i - 1 + 1) x ≡ moved_back (i - 1) to xs
-  back_more i to x pos le lt e is =
-      let was = is ∙ ap (λ l. get_or l (i - 1) x) e in
-      ap (λ l. set l (i - 1 + 1) x) e ∙ same_lists _ _ (search (rules, places)) (λ k d h. grind (arith, places, get_or-set_same, cases_eq k i))
-
-  pub up_none : (from : ℕ) → from < length xs → xs ≡ moved_up from from xs
-  up_none from lt = same_lists _ _ (search (rules, places)) (λ k d h. grind (arith, places))
-
-  pub up_more : (from i : ℕ) (x : R) → from ≤ i → i + 1 < length xs → ys ≡ moved_up from i xs → x ≡ get_or ys (i + 1) x → set ys i x ≡ moved_up from (i + 1) xs
-  up_more from i x le lt e is =
-      let was = is ∙ ap (λ l. get_or l (i + 1) x) e in
-      ap (λ l. set l i x) e ∙ same_lists _ _ (search (rules, places)) (λ k d h. grind (arith, places, get_or-set_same, cases_eq k i))
-
-  -- ---- a record put in or taken out ----
-
-  module _ (place count : ℕ) (x : R) where
-    pub put_back : place ≤ count → count < length xs → ys ≡ moved_back place count xs → set ys place x ≡ insert (take count xs) place x ++ drop (count + 1) xs
-    put_back le lt e =
-        ap (λ l. set l place x) e ∙ same_lists _ _ (search (rules, places)) (λ i d h. grind (arith, places, get_or-set_same, cases_eq i place))
-
-    pub taken_up : place < count → count ≤ length xs → ys ≡ moved_up place (count - 1) xs → set ys (count - 1) x ≡ remove (take count xs) place ++ x ∷ drop count xs
-    taken_up lt le e =
-        ap (λ l. set l (count - 1) x) e ∙ same_lists _ _ (search (rules, places)) (λ i d h. grind (arith, places, get_or-set_same, cases_eq i (count - 1)))
+  pub taken_out : (ys : List R) → (let mid = mid_of place (count - place) xs in ys ≡ drop 1 mid ++ take 1 mid) →
+      place < count → count ≤ length xs → set (put_mid place (count - place) xs ys) (count - 1) x ≡ remove (take count xs) place ++ x ∷ drop count xs
+  taken_out ys turned lt le = ap (λ l. set (put_mid place (count - place) xs l) (count - 1) x) turned ∙ turned_out 1 refl lt le

@@ -1,5 +1,5 @@
 -- Where a new record goes in a list of ranked records, and what holds of every list that is kept so.
-use Rattle.std.specs.Prelude.{◌≡◌, ℕ, Bool, true, cond, not, ◌&&◌, ◌||◌, List, [], ◌∷◌, ◌++◌, length, Some, None, fold, filter, Option, nat_lt, slice_index_or}
+use Rattle.std.specs.Prelude.{◌≡◌, ℕ, Bool, true, not, ◌&&◌, ◌||◌, List, [], ◌∷◌, ◌++◌, fold, filter, slice_index_or}
 use Rattle.std.specs.List.{prefix_len, insert, remove}
 
 -- the place of a new record: behind all the leading ones that are no worse
@@ -9,10 +9,6 @@ place_of nw x xs = prefix_len (λ y. nw y x) xs
 -- the list with a new record in its place
 abbrev pub entered : {R : Type 0} → (no_worse : R → R → Bool) → R → List R → List R
 entered nw x xs = insert xs (place_of nw x xs) x
-
--- the place of the first record that passes a test
-abbrev pub first_place : {R : Type 0} → (test : R → Bool) → List R → Option ℕ
-first_place test xs = let k = prefix_len (λ x. not (test x)) xs in cond (nat_lt k (length xs)) (Some k) None
 
 -- the record is no worse than each of the others
 abbrev pub leads : {R : Type 0} → (no_worse : R → R → Bool) → R → List R → Bool

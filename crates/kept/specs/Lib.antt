@@ -5,4 +5,3 @@ pub mod Orders
 pub mod Quotes
 pub mod Inserting
 pub mod Kept
-pub mod Slots

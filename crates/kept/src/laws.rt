@@ -2,8 +2,6 @@
 ghost use Rattle.kept.specs.Inserting.{InsertionIsOrderly};
 
 // Where ranks are total and carry along a chain, insertion keeps rank, and records of one rank stand as they arrived.
-pub fn insertion_law<R>() -> u8
+pub fn insertion_law<R>()
     ensures { InsertionIsOrderly R }
-{
-    0
-}
+{}

@@ -6,7 +6,6 @@ mod list;
 mod orders;
 mod quotes;
 mod ranked;
-mod slots;
 mod standing;
 mod tables;
 #[cfg(test)]
@@ -16,6 +15,6 @@ pub use laws::insertion_law;
 pub use list::KeptList;
 pub use orders::Order;
 pub use quotes::Quote;
-pub use ranked::{Keyed, Ranked, better};
+pub use ranked::{Keyed, Ranked, better, clear};
 pub use standing::Standing;
 pub use tables::Tables;

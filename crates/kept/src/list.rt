@@ -1,11 +1,13 @@
 // The kept list: ranked records, best first, in places that the caller lends.
-ghost use Rattle.std.specs.Prelude.{◌≡◌, ℕ, ◌≤◌, length, take, IfSome};
+ghost use Rattle.std.specs.Prelude.{◌≡◌, ℕ, ◌≤◌, length, take, position, IfSome};
 ghost use Rattle.std.specs.List.{slice_get};
-ghost use Rattle.kept.specs.Inserting.{first_place};
+ghost use Rattle.terms.specs.Sides.{side_number};
+ghost use Rattle.kept.specs.Inserting.{place_of};
 ghost use Rattle.kept.specs.Kept.{places, standing, StaysSound, SameExtent, Made, Makes, Inserts, Replaces, Alike, Removes};
 
-use crate::ranked::{Keyed, Ranked};
-use crate::slots::{clear, place_of_key, put_in, record_at, take_out, write_over};
+use crate::ranked::{Keyed, Ranked, clear};
+use std::mem;
+use terms::Side;
 
 // The first `count` places hold the records that stand, of which there may be at most `bound`.
 // A list that is made and changed by its own calls keeps `count` at most `bound`, and `bound` at most the places there are.
@@ -34,7 +36,7 @@ impl<'a, R: Ranked + Copy> KeptList<'a, R> {
         requires { bound ≤ length slots.old }
         ensures { Made R.Ranked.cleared bound slots.old result }
     {
-        clear(slots, bound, R::blank());
+        clear(&mut slots[..bound]);
         KeptList {
             slots,
             count: 0,
@@ -55,22 +57,22 @@ impl<'a, R: Ranked + Copy> KeptList<'a, R> {
     pub fn get(&self, place: usize) -> Option<R>
         ensures { result ≡ slice_get (standing self.now) place }
     {
-        let count = self.len();
-        record_at(self.slots, count, place)
+        self.standing().get(place).copied()
     }
 
     // Puts a record behind all that are no worse on the side, and says at which place it then stands. A full list refuses.
-    pub fn insert(&mut self, side: u32, item: R) -> Option<usize>
-        ensures inserts { Inserts (R.Ranked.ranks side) item self.old self.new result }
+    pub fn insert(&mut self, side: Side, item: R) -> Option<usize>
+        ensures inserts { Inserts (R.Ranked.ranks (side_number side)) item self.old self.new result }
         ensures same { SameExtent self.old self.new }
-        ensures keeps { StaysSound (R.Ranked.ranks side) R.Ranked.cleared self.old self.new }
+        ensures keeps { StaysSound (R.Ranked.ranks (side_number side)) R.Ranked.cleared self.old self.new }
     {
-        let count = self.count;
-        if count >= self.bound || count >= self.slots.len() {
+        if self.count >= self.bound || self.count >= self.slots.len() {
             return None;
         }
-        let place = put_in(self.slots, count, side, item);
-        self.count = count + 1;
+        let place = self.place_for(side, &item);
+        self.slots[place..=self.count].rotate_right(1);
+        self.slots[place] = item;
+        self.count += 1;
         Some(place)
     }
 
@@ -80,11 +82,10 @@ impl<'a, R: Ranked + Copy> KeptList<'a, R> {
         ensures same { SameExtent self.old self.new }
         ensures keeps { (side : ℕ) → IfSome result (Alike (R.Ranked.ranks side) item) → StaysSound (R.Ranked.ranks side) R.Ranked.cleared self.old self.new }
     {
-        let count = self.len();
-        if place >= count {
+        if place >= self.len() {
             return None;
         }
-        Some(write_over(self.slots, count, place, item))
+        Some(mem::replace(&mut self.slots[place], item))
     }
 
     // Takes out the record at a place and returns it. Those behind it move up, and the freed place is cleared.
@@ -97,18 +98,39 @@ impl<'a, R: Ranked + Copy> KeptList<'a, R> {
         if place >= count {
             return None;
         }
-        let gone = take_out(self.slots, count, place);
+        let gone = self.slots[place];
+        self.slots[place..count].rotate_left(1);
+        self.slots[count - 1] = R::default();
         self.count = count - 1;
         Some(gone)
+    }
+
+    // The records that stand.
+    fn standing(&self) -> &[R]
+        ensures { result.now ≡ standing self.now }
+    {
+        &self.slots[..self.len()]
+    }
+
+    // Where a record goes: behind all that are no worse.
+    fn place_for(&self, side: Side, item: &R) -> usize
+        ensures place { result ≡ place_of (R.Ranked.ranks (side_number side)) item.now (standing self.now) }
+        ensures within { result ≤ self.now.count }
+    {
+        self.standing()
+            .iter()
+            .take_while(|record| record.no_worse(side, item))
+            .count()
     }
 }
 
 impl<R: Keyed + Copy> KeptList<'_, R> {
     // The place of the first record that goes by a number.
     pub fn find(&self, key: u32) -> Option<usize>
-        ensures { result ≡ first_place (λ x. R.Keyed.answers x key) (standing self.now) }
+        ensures { result ≡ position (λ x. R.Keyed.answers x key) (standing self.now) }
     {
-        let count = self.len();
-        place_of_key(self.slots, count, key)
+        self.standing()
+            .iter()
+            .position(|record| record.answers_to(key))
     }
 }

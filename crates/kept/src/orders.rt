@@ -4,8 +4,9 @@ ghost use Rattle.std.proofs.Common.{rules};
 
 use crate::ranked::{Keyed, Ranked, better};
 use crate::standing::Standing;
+use terms::Side;
 
-#[derive(Clone, Copy)]
+#[derive(Clone, Copy, Debug, Default, PartialEq, Eq)]
 pub struct Order {
     pub number: u32,
     pub price: u32,
@@ -17,20 +18,16 @@ impl Ranked for Order {
 
     ghost cleared = { no_order };
 
+    ghost blank = { Prim.search rules };
+
+    ghost sided = { Prim.search rules };
+
     ghost total = { Prim.search rules };
 
     ghost chained = { Prim.search rules };
 
-    fn no_worse(&self, side: u32, other: &Order) -> bool {
+    fn no_worse(&self, side: Side, other: &Order) -> bool {
         !better(side, other.price, self.price)
-    }
-
-    fn blank() -> Order {
-        Order {
-            number: 0,
-            price: 0,
-            left: 0,
-        }
     }
 }
 

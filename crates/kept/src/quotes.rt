@@ -4,8 +4,9 @@ ghost use Rattle.std.proofs.Common.{rules};
 
 use crate::ranked::{Keyed, Ranked, better};
 use crate::standing::Standing;
+use terms::Side;
 
-#[derive(Clone, Copy)]
+#[derive(Clone, Copy, Debug, Default, PartialEq, Eq)]
 pub struct Quote {
     pub party: u32,
     pub price: u32,
@@ -18,22 +19,17 @@ impl Ranked for Quote {
 
     ghost cleared = { no_quote };
 
+    ghost blank = { Prim.search rules };
+
+    ghost sided = { Prim.search rules };
+
     ghost total = { Prim.search rules };
 
     ghost chained = { Prim.search rules };
 
-    fn no_worse(&self, side: u32, other: &Quote) -> bool {
+    fn no_worse(&self, side: Side, other: &Quote) -> bool {
         better(side, self.price, other.price)
             || (self.price == other.price && self.place <= other.place)
-    }
-
-    fn blank() -> Quote {
-        Quote {
-            party: 0,
-            price: 0,
-            left: 0,
-            place: 0,
-        }
     }
 }
 

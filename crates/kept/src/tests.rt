@@ -2,9 +2,8 @@
 use crate::list::KeptList;
 use crate::orders::Order;
 use crate::quotes::Quote;
-use crate::ranked::Ranked;
 use std::test::Fail;
-use terms::{BIDS, OFFERS};
+use terms::Side;
 
 fn order(number: u32, price: u32) -> Order {
     Order {
@@ -16,15 +15,12 @@ fn order(number: u32, price: u32) -> Order {
 
 // The number of the order at a place, or 0.
 fn number_at(list: &KeptList<'_, Order>, place: usize) -> u32 {
-    match list.get(place) {
-        Some(order) => order.number,
-        None => 0,
-    }
+    list.get(place).map_or(0, |order| order.number)
 }
 
 // Orders 1, 2 and 3 arrive at these prices: their numbers, best first.
-fn best_first(side: u32, prices: [u32; 3]) -> [u32; 3] {
-    let mut table = [<Order as Ranked>::blank(); 3];
+fn best_first(side: Side, prices: [u32; 3]) -> [u32; 3] {
+    let mut table = [Order::default(); 3];
     let mut list = KeptList::empty(&mut table, 3);
     let _ = list.insert(side, order(1, prices[0]));
     let _ = list.insert(side, order(2, prices[1]));
@@ -38,20 +34,20 @@ fn best_first(side: u32, prices: [u32; 3]) -> [u32; 3] {
 
 #[test]
 fn higher_bids_come_first_and_equals_by_arrival(rt: HostRuntime) {
-    assert_eq!(rt; best_first(BIDS, [110, 120, 110]), [2, 1, 3]);
+    assert_eq!(rt; best_first(Side::Bids, [110, 120, 110]), [2, 1, 3]);
 }
 
 #[test]
 fn lower_offers_come_first_and_equals_by_arrival(rt: HostRuntime) {
-    assert_eq!(rt; best_first(OFFERS, [110, 120, 110]), [1, 3, 2]);
+    assert_eq!(rt; best_first(Side::Offers, [110, 120, 110]), [1, 3, 2]);
 }
 
 #[test]
 fn quotes_at_one_price_stand_as_drawn(rt: HostRuntime) {
-    let mut table = [<Quote as Ranked>::blank(); 2];
+    let mut table = [Quote::default(); 2];
     let mut list = KeptList::empty(&mut table, 2);
     let _ = list.insert(
-        OFFERS,
+        Side::Offers,
         Quote {
             party: 20,
             price: 110,
@@ -61,7 +57,7 @@ fn quotes_at_one_price_stand_as_drawn(rt: HostRuntime) {
     );
     assert_eq!(rt;
         list.insert(
-            OFFERS,
+            Side::Offers,
             Quote {
                 party: 10,
                 price: 110,
@@ -77,7 +73,7 @@ fn quotes_at_one_price_stand_as_drawn(rt: HostRuntime) {
 fn a_removed_order_leaves_a_cleared_place(rt: HostRuntime) {
     let mut table = [order(7, 110); 2];
     let mut list = KeptList::empty(&mut table, 2);
-    let _ = list.insert(OFFERS, order(1, 110));
+    let _ = list.insert(Side::Offers, order(1, 110));
     assert!(rt; list.remove(0).is_some());
     assert!(rt; list.find(1).is_none());
     assert_eq!(rt; table[0].number, 0);
@@ -85,10 +81,10 @@ fn a_removed_order_leaves_a_cleared_place(rt: HostRuntime) {
 
 #[test]
 fn a_full_list_refuses(rt: HostRuntime) {
-    let mut table = [<Order as Ranked>::blank(); 2];
+    let mut table = [Order::default(); 2];
     let mut list = KeptList::empty(&mut table, 1);
-    let _ = list.insert(BIDS, order(1, 110));
-    assert_eq!(rt; list.insert(BIDS, order(2, 120)), None);
+    let _ = list.insert(Side::Bids, order(1, 110));
+    assert_eq!(rt; list.insert(Side::Bids, order(2, 120)), None);
 }
 
 #[test]

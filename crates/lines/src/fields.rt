@@ -1,11 +1,8 @@
 // The fields of a line, which one blank parts from the next.
-ghost use Rattle.std.specs.Prelude.{◌≡◌, ◌+◌, ◌<◌, ◌≤◌, true, false, ◌&&◌, length, if◌then◌else◌, MatchOption, nat_lt};
-ghost use Rattle.lines.specs.Split.{end_of, field};
-
-use crate::scan::before;
+ghost use Rattle.std.specs.Prelude.{◌≡◌, ◌≤◌, ◌==◌, length, Some, position, unwrap_or};
 
 // One field: its bytes, and where in the line it begins, from 0.
-#[derive(Clone, Copy)]
+#[derive(Clone, Copy, PartialEq, Eq, Debug)]
 pub struct Part<'a> {
     pub text: &'a [u8],
     pub column: usize,
@@ -15,44 +12,81 @@ pub struct Part<'a> {
 #[derive(Drop)]
 pub struct Fields<'a> {
     line: &'a [u8],
-    at: usize,
-    more: bool,
-    ghost inside: { at ≤ length line.now },
+    // the column where the next field begins, none behind the last
+    start: Option<usize>,
+    ghost inside: { unwrap_or start 0 ≤ length line.now },
 }
 
 impl<'a> Fields<'a> {
     // The fields of a line, none handed out yet.
     pub fn of(line: &'a [u8]) -> Fields<'a>
         ensures line { result.line.now ≡ line.now }
-        ensures start { (result.at ≡ 0) × (result.more ≡ true) }
+        ensures start { result.start ≡ Some 0 }
     {
         Fields {
             line,
-            at: 0,
-            more: true,
+            start: Some(0),
+        }
+    }
+}
+
+// Where the first blank stands.
+fn first_blank(bytes: &[u8]) -> Option<usize>
+    ensures { result ≡ position (λ b. b == 32) bytes.now }
+{
+    bytes.iter().position(|b| *b == b' ')
+}
+
+impl<'a> Iterator for Fields<'a> {
+    ghost use Rattle.std.specs.Iterator.{at_most};
+    ghost use Rattle.lines.specs.Fields.{GivesField, most_left};
+
+    type Item = Part<'a>;
+
+    ghost next_gives = { GivesField };
+
+    ghost remaining = { λ fields. at_most (most_left fields) };
+
+    // The next field; none behind the last.
+    fn next(&mut self) -> Option<Part<'a>> {
+        let column = self.start?;
+        let rest = &self.line[column..];
+        let Some(len) = first_blank(rest) else {
+            self.start = None;
+            return Some(Part { text: rest, column });
+        };
+        self.start = Some(column + len + 1);
+        Some(Part {
+            text: &rest[..len],
+            column,
+        })
+    }
+}
+
+#[cfg(test)]
+mod tests {
+    use super::*;
+
+    fn part(text: &[u8], column: usize) -> Part<'_> {
+        Part { text, column }
+    }
+
+    // An empty field stands between two blanks, and behind a blank at the line's end.
+    #[test]
+    fn hands_out_each_field(rt: HostRuntime) {
+        let line = b"to  12 ".as_slice();
+        let wanted = [part(b"to", 0), part(b"", 3), part(b"12", 4), part(b"", 7)];
+        assert_eq!(rt; Fields::of(line).count(), wanted.len());
+        for (found, wanted) in Fields::of(line).zip(wanted) {
+            assert_eq!(rt; found, wanted);
         }
     }
 
-    // The next field; none behind the last.
-    pub fn next(&mut self) -> Option<Part<'a>>
-        ensures part { MatchOption result (self.old.more ≡ false) (λ p. (self.old.more ≡ true) × (p.text.now ≡ field self.old.line.now self.old.at) × (p.column ≡ self.old.at)) }
-        ensures line { self.new.line.now ≡ self.old.line.now }
-        ensures more { self.new.more ≡ (self.old.more && nat_lt (end_of self.old.line.now self.old.at) (length self.old.line.now)) }
-        ensures at { self.new.at ≡ (if self.new.more then end_of self.old.line.now self.old.at + 1 else self.old.at) }
-    {
-        if !self.more {
-            return None;
-        }
-        let line = self.line;
-        let at = self.at;
-        let end = at + before(b' ', line, at);
-        self.more = end < line.len();
-        if self.more {
-            self.at = end + 1;
-        }
-        Some(Part {
-            text: &line[at..end],
-            column: at,
-        })
+    #[test]
+    fn hands_out_the_empty_field_of_an_empty_line(rt: HostRuntime) {
+        let mut fields = Fields::of(b"");
+        assert_eq!(rt; fields.next(), Some(part(b"", 0)));
+        assert_eq!(rt; fields.next(), None);
+        assert_eq!(rt; fields.next(), None);
     }
 }

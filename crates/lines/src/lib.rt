@@ -4,7 +4,6 @@
 mod fields;
 mod numeral;
 mod reading;
-mod scan;
 
 pub use fields::{Fields, Part};
 pub use numeral::number;

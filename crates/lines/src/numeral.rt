@@ -2,19 +2,22 @@
 ghost use Rattle.std.specs.Prelude.{◌≡◌};
 ghost use Rattle.lines.specs.Numbers.{number_of};
 
+const MOST_DIGITS: usize = 9;
+
 // 1 to 9 digits and no leading zero; 0 alone is a number.
+#[tactic(auto, using(crate::proofs::Spelling::short))]
 pub fn number(text: &[u8]) -> Option<u32>
     ensures { result ≡ number_of text.now }
 {
-    if text.is_empty() || text.len() > 9 || (text[0] == b'0' && text.len() > 1) {
+    if matches!(text, [] | [b'0', _, ..]) || text.len() > MOST_DIGITS {
         return None;
     }
     let mut value = 0;
-    for &b in text {
-        if b < b'0' || b > b'9' {
+    for digit in text {
+        if !digit.is_ascii_digit() {
             return None;
         }
-        value = value * 10 + (b - b'0') as u32;
+        value = value * 10 + u32::from(digit - b'0');
     }
     Some(value)
 }

@@ -1,11 +1,11 @@
 -- What a fill that is written into a block leaves: its count and total, its room for more, and the block of one fill more.
-use Rattle.std.proofs.Common.{◌≡◌, ℕ, ◌+◌, ◌<◌, ◌≤◌, List, [], ◌∷◌, ◌++◌, length, get_or, set, refl, ap, ◌∙◌, arith, length-set}
+use Rattle.std.proofs.Common.{◌≡◌, ℕ, ◌+◌, ◌<◌, ◌≤◌, List, [], ◌∷◌, length, get_or, set, refl, ap, ◌∙◌, arith, length-set}
 use Rattle.std.proofs.lemmas.List.{get_or-set_same, get_or-set_other}
-use Rattle.blocks.specs.Blocks.{block, filled_by}
+use Rattle.blocks.specs.Blocks.{filled_by}
 use Rattle.blocks.specs.Reading.{count_in, total_in}
 use Rattle.blocks.specs.declared.Fill.{Fill}
-use Rattle.blocks.proofs.Filling.{pushed_block}
-use Rattle.serving.specs.Filling.{Room, Roomy, filled_in, all_filled_in}
+use Rattle.blocks.specs.Writing.{filled_in}
+use Rattle.serving.specs.Filling.{Roomy, all_filled_in}
 
 -- ---- the length, the count and the total of a row ----
 
@@ -49,18 +49,7 @@ total_all k (f ∷ fs) b l =
     let d = total_filled k f b l in
     omega arith
 
--- a fill written behind the block of some fills makes the block of these and the fill
-pub filled_block : (k : ℕ) (fs : List Fill) (f : Fill) → length fs < k → filled_in k f (block k fs) ≡ block k (fs ++ f ∷ [])
-unfolding filled_in
-filled_block = pushed_block
-
 -- ---- room ----
-
-pub room_for : (k m n contracts : ℕ) (b : List ℕ) → Roomy k m n b → 0 < m → contracts ≤ n → Room k contracts b
-room_for k m n contracts b r some le =
-    let free = r.free in
-    let most = r.most in
-    record { long = r.long; few = r.few; free = omega arith; most = omega arith }
 
 pub room_less : (k m n m' n' : ℕ) (b : List ℕ) → Roomy k m n b → m' ≤ m → n' ≤ n → Roomy k m' n' b
 room_less k m n m' n' b r le le' =

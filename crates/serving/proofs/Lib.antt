@@ -2,7 +2,6 @@
 mod Mapped
 pub mod Counting
 mod Entering
-mod Asking
 mod Stretches
 mod Lowering
 mod Ready

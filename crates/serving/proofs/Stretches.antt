@@ -1,24 +1,16 @@
 -- A stretch of a table at one price.
-use Rattle.std.proofs.Common.{◌≡◌, ℕ, ◌+◌, ◌-◌, ◌<◌, ◌≤◌, eqb, List, [], ◌∷◌, map, length, get_or, take, drop, sym, refl, ap, ◌∙◌, inl, inr, arith}
-use Rattle.std.proofs.lemmas.List.{drop_more, drop_all, take-map}
-use Rattle.std.proofs.lemmas.Bool.{ne_eqb, eq-eqb, cases_Bool}
+use Rattle.std.proofs.Common.{◌≡◌, ℕ, ◌+◌, ◌-◌, ◌≤◌, eqb, List, [], ◌∷◌, map, length, take, drop, sym, refl, ap, ◌∙◌, inl, inr, arith}
+use Rattle.std.specs.List.{prefix_len}
+use Rattle.std.proofs.lemmas.List.{take-map}
+use Rattle.std.proofs.lemmas.Bool.{cases_Bool}
+use Rattle.std.proofs.lemmas.Bool.Decides.{nat_tests}
 use Rattle.kept.specs.Standing.{Interest}
 use Rattle.serving.specs.Stretch.{front, here}
 
-module _ {X : Type 0} (shown : X → Interest) where
-  here_at : (xs : List X) (k p : ℕ) (x : X) → k < length xs → x ≡ get_or xs k x → here shown k p xs ≡ front p (shown x ∷ map shown (drop (k + 1) xs))
-  here_at xs k p x h e = ap (λ l. front p (map shown l)) (drop_more xs k x h) ∙ ap (λ y. front p (shown y ∷ map shown (drop (k + 1) xs))) (sym e)
-
-  pub here_on : (xs : List X) (k p q : ℕ) (x : X) → k < length xs → x ≡ get_or xs k x → q ≡ (shown x).price → q ≡ p →
-      length (here shown k p xs) ≡ 1 + length (here shown (k + 1) p xs)
-  here_on xs k p q x h e u v = ap length (here_at xs k p x h e) ∙ rw (eq-eqb p (shown x).price (sym v ∙ u)) (omega arith)
-
-  pub here_stop : (xs : List X) (k p q : ℕ) (x : X) → k < length xs → x ≡ get_or xs k x → q ≡ (shown x).price → (q ≡ p → ⊥) →
-      length (here shown k p xs) ≡ 0
-  here_stop xs k p q x h e u v = ap length (here_at xs k p x h e) ∙ rw (ne_eqb p (shown x).price (λ w. v (u ∙ sym w)))
-
-  pub here_none : (xs : List X) (k p : ℕ) → length xs ≤ k → length (here shown k p xs) ≡ 0
-  here_none xs k p h = ap (λ l. length (front p (map shown l))) (drop_all k xs h)
+-- how many of the first records are at a price
+pub front_run : {X : Type 0} (shown : X → Interest) (p : ℕ) (xs : List X) → prefix_len (λ x. eqb (shown x).price p) xs ≡ length (front p (map shown xs))
+front_run shown p [] = refl
+front_run shown p (x ∷ xs) = let ih = front_run shown p xs in grind (arith, nat_tests)
 
 pub front_few : (p : ℕ) (t : List Interest) → length (front p t) ≤ length t
 front_few p [] = omega arith

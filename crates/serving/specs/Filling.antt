@@ -1,6 +1,7 @@
 -- A block that fills are written into, one behind another.
-use Rattle.std.specs.Prelude.{◌≡◌, ℕ, ◌+◌, ◌<◌, ◌≤◌, List, [], ◌∷◌, length, slice_set}
+use Rattle.std.specs.Prelude.{◌≡◌, ℕ, ◌+◌, ◌≤◌, List, [], ◌∷◌, length}
 use Rattle.blocks.specs.Reading.{count_in, total_in}
+use Rattle.blocks.specs.Writing.{filled_in}
 use Rattle.blocks.specs.declared.Fill.{Fill}
 
 -- a row as long as a block of its places, with places for so many more fills, and a total for so many more contracts
@@ -9,18 +10,6 @@ pub record Roomy (places fills contracts : ℕ) (b : List ℕ) : Type 0 where
   pub few : places ≤ 64
   pub free : count_in b + fills ≤ places
   pub most : total_in b + contracts ≤ 999999
-
--- a row with room for one fill of so many contracts: a place is free, and the total is not passed
-pub record Room (places contracts : ℕ) (b : List ℕ) : Type 0 where
-  pub long : length b ≡ 2 + places + places
-  pub few : places ≤ 64
-  pub free : count_in b < places
-  pub most : total_in b + contracts ≤ 999999
-
--- the row after the four writes of a fill: its holder, its contracts, the count, the total
-unfoldable pub filled_in : (places : ℕ) → Fill → List ℕ → List ℕ
-filled_in k f b =
-    slice_set (slice_set (slice_set (slice_set b (2 + count_in b) f.holder) (2 + k + count_in b) f.contracts) 0 (count_in b + 1)) 1 (total_in b + f.contracts)
 
 -- the row after some fills are written into it
 abbrev pub all_filled_in : (places : ℕ) → List Fill → List ℕ → List ℕ

@@ -1,5 +1,6 @@
 // One class of a table that is best first, served at one price.
-ghost use Rattle.std.specs.Prelude.{◌≡◌, ◌+◌, ◌≤◌, length};
+ghost use Rattle.std.specs.Prelude.{◌≡◌, ◌+◌, ◌≤◌, ◌==◌, length};
+ghost use Rattle.std.specs.List.{prefix_len};
 ghost use Rattle.model.specs.Trading.{rule as meaning};
 ghost use Rattle.serving.specs.Serving.{Servable, Serves};
 ghost use Rattle.serving.specs.Stretch.{here};
@@ -15,18 +16,23 @@ pub struct Served {
     pub left: u32,
 }
 
+// How many of the first records are at a price.
+fn leading<R: Standing + Copy>(records: &[R], price: u32) -> usize
+    ensures { result ≡ prefix_len (λ standing. (R.Standing.shown standing).price == price) records.now }
+{
+    records
+        .iter()
+        .take_while(|record| record.price() == price)
+        .count()
+}
+
 // Where the stretch at a price ends that begins at a place.
 fn stretch_end<R: Standing + Copy>(records: &[R], from: usize, price: u32) -> usize
     requires { from ≤ length records.now }
     ensures end { result ≡ from + length (here R.Standing.shown from price records.now) }
     ensures inside { result ≤ length records.now }
 {
-    for k in from..records.len() {
-        if records[k].price() != price {
-            return k;
-        }
-    }
-    records.len()
+    from + leading(&records[from..], price)
 }
 
 // Shares a portion among the records at a price, which begin at a place: shares above 0 become fills in a block of so many places,

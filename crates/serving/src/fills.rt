@@ -4,25 +4,11 @@ ghost use Rattle.terms.specs.Numbers.{sum};
 ghost use Rattle.sharing.specs.Rule.{EachWithin};
 ghost use Rattle.model.specs.Fills.{fills};
 ghost use Rattle.model.specs.Tables.{sizes_of};
-ghost use Rattle.serving.specs.Filling.{Room, Roomy, all_filled_in, filled_in};
+ghost use Rattle.serving.specs.Filling.{Roomy, all_filled_in};
 ghost use Rattle.serving.specs.Stretch.{lowered_each};
 
-use blocks::Fill;
+use blocks::{Fill, add_unchecked};
 use kept::Standing;
-
-// Writes a fill behind those of a block that has room for it.
-fn write_fill(block: &mut [u32], places: usize, fill: Fill)
-    requires { Room places fill.contracts block.old }
-    ensures { block.new ≡ filled_in places fill block.old }
-{
-    let count = block[0];
-    let total = block[1];
-    let at = count as usize;
-    block[2 + at] = fill.holder;
-    block[2 + places + at] = fill.contracts;
-    block[0] = count + 1;
-    block[1] = total + fill.contracts;
-}
 
 // Enters each share above 0 as a fill, and says how many of the contracts are left.
 pub(crate) fn enter_fills<R: Standing + Copy>(
@@ -38,11 +24,10 @@ pub(crate) fn enter_fills<R: Standing + Copy>(
     ensures block { block.new ≡ all_filled_in places (fills (map R.Standing.shown records.now) shares.now) block.old }
 {
     let mut left = number;
-    for i in 0..records.len() {
-        let contracts = shares[i];
+    for (record, &contracts) in records.iter().zip(shares) {
         if contracts > 0 {
-            let holder = records[i].holder();
-            write_fill(block, places, Fill { holder, contracts });
+            let holder = record.holder();
+            add_unchecked(block, places, Fill { holder, contracts });
             left -= contracts;
         }
     }
@@ -55,8 +40,9 @@ pub(crate) fn lower_each<R: Standing + Copy>(records: &mut [R], shares: &[u32])
     requires inside { EachWithin shares.now (sizes_of (map R.Standing.shown records.old)) }
     ensures { records.new ≡ lowered_each R.Standing.lower records.old shares.now }
 {
-    for i in 0..records.len() {
-        let standing = records[i];
-        records[i] = standing.lowered(shares[i]);
+    // the shares by index: when a `zip` over `iter_mut` is done, a proof knows nothing of what it wrote
+    for (i, record) in records.iter_mut().enumerate() {
+        let standing = *record;
+        *record = standing.lowered(shares[i]);
     }
 }

@@ -10,8 +10,9 @@ pub(crate) fn gather<R: Standing + Copy>(records: &[R], holders: &mut [u32], siz
     ensures holders { holders.new ≡ holders_of (map R.Standing.shown records.now) }
     ensures sizes { sizes.new ≡ sizes_of (map R.Standing.shown records.now) }
 {
-    for i in 0..records.len() {
-        holders[i] = records[i].holder();
-        sizes[i] = records[i].left();
+    // the rows that are written by index, for the same reason as in `lower_each`
+    for (i, record) in records.iter().enumerate() {
+        holders[i] = record.holder();
+        sizes[i] = record.left();
     }
 }

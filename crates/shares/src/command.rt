@@ -1,41 +1,43 @@
 // What a line says.
 use crate::fault::Fault;
 use crate::order::Order;
+use arrayvec::ArrayVec;
 use lines::{Fields, number};
-use terms::{MOST_PARTY, MOST_TRADED, within};
-
-#[derive(Clone, Copy)]
-pub enum Class {
-    Customer,
-    Maker,
-    Firm,
-}
-
-// The day's draw: parties in their order, and the specialist, 0 for none. A line has room for fewer than 100.
-#[derive(Clone, Copy)]
-pub struct Draw {
-    pub parties: [u32; 100],
-    pub count: usize,
-    pub specialist: u32,
-}
-
-#[derive(Clone, Copy)]
-pub enum Command {
-    // an empty line, or a note, which begins with #
-    Nothing,
-    Draw(Draw),
-    Entry(Class, u32, u32),
-    Order(Order),
-}
+use terms::{Class, MOST_PARTY, MOST_TRADED, within};
 
 // The bytes that a line may have.
 pub const MOST_BYTES: usize = 200;
 
+// More numbers than a line has room for, since a blank stands before each.
+const MOST_FIELDS: usize = MOST_BYTES / 2;
+
+// The day's draw: parties in their order, and the specialist, 0 for none as the rule is asked.
+#[derive(Drop)]
+pub struct Draw {
+    pub parties: ArrayVec<u32, MOST_FIELDS>,
+    pub specialist: u32,
+}
+
+// One who comes to stand in a class, with so many contracts.
+#[derive(Clone, Copy)]
+pub struct Entry {
+    pub class: Class,
+    pub holder: u32,
+    pub size: u32,
+}
+
+#[derive(Drop)]
+pub enum Command {
+    // an empty line, or a note, which begins with #
+    Nothing,
+    Draw(Draw),
+    Entry(Entry),
+    Order(Order),
+}
+
 // The number in the next field.
 fn read_number(fields: &mut Fields<'_>) -> Result<u32, Fault> {
-    let Some(part) = fields.next() else {
-        return Err(Fault::TooFew);
-    };
+    let part = fields.next().ok_or(Fault::TooFew)?;
     number(part.text).ok_or(Fault::Number)
 }
 
@@ -52,35 +54,30 @@ fn read_entry(class: Class, fields: &mut Fields<'_>) -> Result<Command, Fault> {
     let holder = read_number(fields)?;
     let size = read_number(fields)?;
     read_end(fields)?;
-    Ok(Command::Entry(class, holder, size))
+    Ok(Command::Entry(Entry {
+        class,
+        holder,
+        size,
+    }))
 }
 
 // draw, then parties, and at the end perhaps: specialist and a party.
 fn read_draw(fields: &mut Fields<'_>) -> Result<Command, Fault> {
-    let mut draw = Draw {
-        parties: [0; 100],
-        count: 0,
-        specialist: 0,
-    };
-    for _ in 0..100 {
-        let Some(part) = fields.next() else {
-            return Ok(Command::Draw(draw));
-        };
+    let mut parties = ArrayVec::new();
+    let mut specialist = 0;
+    while let Some(part) = fields.next() {
         if part.text == b"specialist".as_slice() {
-            draw.specialist = read_number(fields)?;
+            specialist = read_number(fields)?;
             read_end(fields)?;
-            return Ok(Command::Draw(draw));
+            break;
         }
-        let Some(party) = number(part.text) else {
-            return Err(Fault::Number);
-        };
-        if draw.count >= 100 {
-            return Err(Fault::TooMany);
-        }
-        draw.parties[draw.count] = party;
-        draw.count += 1;
+        let party = number(part.text).ok_or(Fault::Number)?;
+        parties.try_push(party).map_err(|_| Fault::Parties)?;
     }
-    Err(Fault::TooMany)
+    Ok(Command::Draw(Draw {
+        parties,
+        specialist,
+    }))
 }
 
 // order, its size, and perhaps: to and a party.
@@ -90,17 +87,23 @@ fn read_order(fields: &mut Fields<'_>) -> Result<Command, Fault> {
         return Err(Fault::Order);
     }
     let Some(part) = fields.next() else {
-        return Ok(Command::Order(Order { size, directed: 0 }));
+        return Ok(Command::Order(Order {
+            size,
+            directed: None,
+        }));
     };
     if part.text != b"to".as_slice() {
         return Err(Fault::TooMany);
     }
-    let directed = read_number(fields)?;
+    let party = read_number(fields)?;
     read_end(fields)?;
-    if !within(MOST_PARTY, directed) {
+    if !within(MOST_PARTY, party) {
         return Err(Fault::Directed);
     }
-    Ok(Command::Order(Order { size, directed }))
+    Ok(Command::Order(Order {
+        size,
+        directed: Some(party),
+    }))
 }
 
 // What a line says, or what is wrong with it.
@@ -108,18 +111,16 @@ pub fn read_command(line: &[u8]) -> Result<Command, Fault> {
     if line.len() > MOST_BYTES {
         return Err(Fault::TooLong);
     }
-    if line.is_empty() || line[0] == b'#' {
+    if matches!(line, [] | [b'#', ..]) {
         return Ok(Command::Nothing);
     }
     let mut fields = Fields::of(line);
-    let Some(word) = fields.next() else {
-        return Err(Fault::TooFew);
-    };
+    let word = fields.next().ok_or(Fault::TooFew)?;
     match word.text {
         b"draw" => read_draw(&mut fields),
-        b"customer" => read_entry(Class::Customer, &mut fields),
-        b"maker" => read_entry(Class::Maker, &mut fields),
-        b"firm" => read_entry(Class::Firm, &mut fields),
+        b"customer" => read_entry(Class::Customers, &mut fields),
+        b"maker" => read_entry(Class::Makers, &mut fields),
+        b"firm" => read_entry(Class::Firms, &mut fields),
         b"order" => read_order(&mut fields),
         _ => Err(Fault::Word),
     }

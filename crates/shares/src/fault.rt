@@ -1,4 +1,10 @@
 // What can be wrong with a line.
+ghost use Rattle.std.specs.Prelude.{◌≡◌, Some};
+ghost use Rattle.shares.specs.Faults.{fault_of, text_of};
+
+use std::error::Error;
+use std::fmt;
+use terms::Refusal;
 
 #[derive(Clone, Copy, PartialEq, Eq, Debug)]
 pub enum Fault {
@@ -22,10 +28,12 @@ pub enum Fault {
     Directed,
 }
 
-impl Fault {
-    // What to tell whoever typed the line.
-    pub fn text(self) -> &'static str {
-        match self {
+// What to tell whoever typed the line.
+impl fmt::Display for Fault {
+    ghost output = { λ fault. Some (text_of fault) };
+
+    fn fmt<W: fmt::Write>(&self, f: &mut fmt::Formatter<W>) -> fmt::Result {
+        f.write_str(match self {
             Fault::TooLong => "is longer than 200 bytes",
             Fault::Word => "begins with none of draw, customer, maker, firm, order",
             Fault::Number => "has a field that is no number (1 to 9 digits, no leading zero)",
@@ -40,6 +48,21 @@ impl Fault {
             Fault::Full => "is one entry more than the 64 that a class may have",
             Fault::Order => "has an order's size out of 1 to 999999",
             Fault::Directed => "directs the order to a party out of 1 to 65535",
+        })
+    }
+}
+
+impl Error for Fault {}
+
+// What is wrong with a draw that is refused.
+impl From<Refusal> for Fault {
+    ghost from_gives = { λ why fault. fault ≡ fault_of why };
+
+    fn from(why: Refusal) -> Fault {
+        match why {
+            Refusal::TooManyParties => Fault::Parties,
+            Refusal::SpecialistNotDrawn => Fault::Specialist,
+            _ => Fault::Party,
         }
     }
 }

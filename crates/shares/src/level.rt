@@ -1,74 +1,52 @@
 // One order at one price: customers first, then makers, then firms.
-ghost use Rattle.std.specs.Prelude.{◌≡◌, ◌≤◌, length};
-ghost use Rattle.terms.specs.Numbers.{sum};
+ghost use Rattle.std.specs.Prelude.{◌≡◌, ◌≤◌, take};
 ghost use Rattle.shares.specs.Level.{after, asks};
+ghost use Rattle.shares.specs.Listed.{count};
 ghost use Rattle.shares.specs.Ordered.{Shared};
 
+use crate::case::{Case, Shares};
 use crate::entries::Entries;
-use crate::order::{Order, Shares};
+use crate::order::Order;
 use sharing::{Asked, DrawRule, ProRata, SharingRule, TimeOrder};
+use terms::{MOST_ENTRIES, sum};
 
-// What is left of a number after shares of it.
-fn left_after(number: u32, shares: &[u32]) -> u32
-    requires { sum shares.now ≤ number }
-    ensures { result ≡ after number shares.now }
-{
-    let mut left = number;
-    for &share in shares {
-        left -= share;
-    }
-    left
-}
-
-// One class shares a number of the order's contracts by its rule. Returns what is left of them.
+// One class shares a number of the order's contracts by its rule, at the front of the room. Returns what is left of them.
 fn share_class<R: SharingRule>(
     rule: &mut R,
     entries: &Entries,
     order: Order,
     number: u32,
-    out: &mut [u32],
+    room: &mut [u32; MOST_ENTRIES],
 ) -> u32
-    requires number { number ≤ order.size }
-    requires room { length out.old ≡ entries.now.count }
-    ensures shares { out.new ≡ R.SharingRule.shares rule.old (asks entries.now order.size number order.directed) }
-    ensures left { result ≡ after number out.new }
-    ensures rule { rule.new ≡ R.SharingRule.next rule.old (asks entries.now order.size number order.directed) }
+    requires { number ≤ order.size }
+    ensures shares { take (count entries.now) room.new ≡ R.SharingRule.shares rule.old (asks entries.now order number) }
+    ensures left { result ≡ after number (R.SharingRule.shares rule.old (asks entries.now order number)) }
+    ensures rule { rule.new ≡ R.SharingRule.next rule.old (asks entries.now order number) }
 {
+    let sizes = entries.sizes();
+    let shares = &mut room[..sizes.len()];
     let asked = Asked {
         holders: entries.holders(),
-        sizes: entries.sizes(),
+        sizes,
         arriving: order.size,
         number,
-        directed: order.directed,
+        directed: order.directed.unwrap_or(0),
     };
-    rule.share(asked, out);
-    left_after(number, out)
+    rule.share(asked, shares);
+    number - sum(shares)
 }
 
 // Shares an order among the three classes and moves the turn on. Returns what is left of it.
-pub fn share_order(
-    order: Order,
-    customers: &Entries,
-    makers: &Entries,
-    firms: &Entries,
-    rule: &mut DrawRule,
-    out: &mut Shares,
-) -> u32
-    ensures { Shared order customers.now makers.now firms.now rule.old rule.new out.new result }
+pub fn share_order(order: Order, case: &Case, rule: &mut DrawRule, out: &mut Shares) -> u32
+    ensures { Shared order case.now rule.old rule.new out.new result }
 {
-    let mut in_time = TimeOrder {};
-    let mut pro_rata = ProRata {};
-    let size = order.size;
-    let c = customers.count;
-    let m = makers.count;
-    let f = firms.count;
     let left = share_class(
-        &mut in_time,
-        customers,
+        &mut TimeOrder,
+        &case.customers,
         order,
-        size,
-        &mut out.customers[0..c],
+        order.size,
+        &mut out.customers,
     );
-    let left = share_class(rule, makers, order, left, &mut out.makers[0..m]);
-    share_class(&mut pro_rata, firms, order, left, &mut out.firms[0..f])
+    let left = share_class(rule, &case.makers, order, left, &mut out.makers);
+    share_class(&mut ProRata, &case.firms, order, left, &mut out.firms)
 }

@@ -1,46 +1,48 @@
 // Taking entries in.
 ghost use Rattle.std.specs.Prelude.{◌≡◌, [], ◌∷◌, ◌++◌, length, is_ok, if◌then◌else◌};
-ghost use Rattle.shares.specs.Listed.{holders_of, sizes_of, accepts};
+ghost use Rattle.shares.specs.Listed.{accepts, count, holders_of, sizes_of};
 
 use crate::entries::Entries;
 use crate::fault::Fault;
-use terms::{MOST_CONTRACTS, MOST_ENTRIES, listed, within};
+use arrayvec::ArrayVec;
+use terms::{MOST_CONTRACTS, listed, within};
 
-impl Entries {
-    // No entries.
-    pub fn none() -> Entries
-        ensures { (holders_of result ≡ []) × (sizes_of result ≡ []) }
-    {
+// No entries.
+impl Default for Entries {
+    ghost is_default = { λ entries. (holders_of entries ≡ []) × (sizes_of entries ≡ []) };
+
+    fn default() -> Entries {
         Entries {
-            holders: [0; 64],
-            sizes: [0; 64],
-            count: 0,
+            holders: ArrayVec::new(),
+            sizes: ArrayVec::new(),
         }
     }
+}
 
+impl Entries {
     // The holders, in list order.
     pub fn holders(&self) -> &[u32]
         ensures value { result.now ≡ holders_of self.now }
-        ensures len { length result.now ≡ self.now.count }
+        ensures len { length result.now ≡ count self.now }
     {
-        &self.holders[0..self.count]
+        &self.holders
     }
 
     // Their sizes.
     pub fn sizes(&self) -> &[u32]
         ensures value { result.now ≡ sizes_of self.now }
-        ensures len { length result.now ≡ self.now.count }
+        ensures len { length result.now ≡ count self.now }
     {
-        &self.sizes[0..self.count]
+        &self.sizes
     }
 
     // One more entry behind the others, whose holder's number is at most so high.
+    #[tactic(auto, using(terms::proofs::Rows::distinct_push, terms::proofs::Rows::ranged_push))]
     pub fn add(&mut self, most: u32, holder: u32, size: u32) -> Result<(), Fault>
         ensures taken { is_ok result ≡ accepts most holder size self.old }
         ensures holders { holders_of self.new ≡ (if is_ok result then holders_of self.old ++ holder ∷ [] else holders_of self.old) }
         ensures sizes { sizes_of self.new ≡ (if is_ok result then sizes_of self.old ++ size ∷ [] else sizes_of self.old) }
     {
-        let n = self.count;
         if !within(most, holder) {
             return Err(Fault::Holder);
         }
@@ -50,12 +52,11 @@ impl Entries {
         if listed(holder, self.holders()) {
             return Err(Fault::Twice);
         }
-        if n >= MOST_ENTRIES {
+        if self.holders.is_full() {
             return Err(Fault::Full);
         }
-        self.holders[n] = holder;
-        self.sizes[n] = size;
-        self.count = n + 1;
+        self.holders.push(holder);
+        self.sizes.push(size);
         Ok(())
     }
 }

@@ -1,6 +1,7 @@
 // Shares one order at one price among customers, makers and firms, case by case.
 #![tactic(auto)]
 
+mod case;
 mod command;
 mod desk;
 mod entries;
@@ -19,24 +20,22 @@ fn main(rt: HostRuntime) -> io::Result<()> {
     let mut input = BufReader::new(rt.alloc(), rt.stdin())?;
     let mut out = BufWriter::new(rt.alloc(), rt.stdout())?;
     let mut line = Vec::new(rt.alloc());
-    let mut desk = Desk::new();
-    let mut number = 0u64;
-    for _ in 0..u64::MAX {
+    let mut desk = Desk::default();
+    for number in 1..=u64::MAX {
         if !next_line(&mut input, MOST_BYTES + 1, &mut line)? {
+            if number == 1 {
+                writeln!(
+                    out,
+                    "the input is empty: write draw, customer, maker, firm and order lines"
+                )?;
+            }
             break;
         }
-        number = number.saturating_add(1);
-        desk.take(number, line.as_slice(), &mut out)?;
+        desk.take(number, &line, &mut out)?;
         // someone may be typing: an answer is not held back
         if input.buffer().is_empty() {
             out.flush()?;
         }
-    }
-    if number == 0 {
-        writeln!(
-            out,
-            "the input is empty: write draw, customer, maker, firm and order lines"
-        )?;
     }
     out.flush()
 }

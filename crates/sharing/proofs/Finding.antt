@@ -1,26 +1,25 @@
 -- Parties found by their places: what the code reads there is what the definitions say.
-use Rattle.std.proofs.Common.{◌≡◌, ℕ, ◌-◌, ◌*◌, ◌/◌, ◌<◌, ◌≤◌, min, true, false, eqb, ltb, ◌≢◌, ◌⊎◌, List, [], ◌∷◌, length, get_or, set, sym, ap, ◌∙◌, inl, inr, div-lt_iff_lt-mul, add-one, arith}
-use Rattle.std.proofs.lemmas.Bool.{eq-eqb, ne_eqb, lt-ltb, le-ltb}
+use Rattle.std.proofs.Common.{◌≡◌, ℕ, ◌-◌, ◌*◌, ◌/◌, ◌<◌, ◌≤◌, min, true, false, eqb, nat_eq, ltb, ◌≢◌, List, [], ◌∷◌, length, get_or, set, MatchOption, Option, position, sym, refl, ap, ◌∙◌, inl, inr, div-lt_iff_lt-mul, add-one, arith}
+use Rattle.std.proofs.lemmas.Bool.{cases_Bool, ltb-true, ne_eqb}
 use Rattle.std.proofs.lemmas.Bool.Decides.{eqb_tells}
 use Rattle.terms.specs.Numbers.{sum, listed, place}
-use Rattle.terms.proofs.Rows.{listed_place}
+use Rattle.terms.proofs.Rows.{found_place, listed_place}
 use Rattle.sharing.specs.Draw.{stands, size_of, percentage, entitled, entitlement, prevails, entitled_first, base_shares}
+use Rattle.sharing.specs.Placed.{StandsAt}
 use Rattle.sharing.specs.ProRata.{plain}
 use Rattle.sharing.specs.Rule.{Inputs, Valid}
 use Rattle.sharing.specs.Counts.{count, Single, distinct_single, single_rest, single_first}
 use Rattle.sharing.specs.Entitled.{prevailing, leaves_less, size_le, none_first}
 
--- a party stands where it has a place before the end
-pub stands_at : (party : ℕ) (holders : List ℕ) → party ≢ 0 → place holders party < length holders → stands party holders ≡ true
-stands_at party holders n l =
-    let there : listed party holders ≡ true = sym (listed_place holders party) ∙ lt-ltb (place holders party) (length holders) l in
-    rw (ne_eqb party 0 n, there)
-
-pub stands_nowhere : (party : ℕ) (holders : List ℕ) → (party ≢ 0 × (length holders ≤ place holders party)) ⊎ (party ≡ 0) → stands party holders ≡ false
-stands_nowhere party holders (inl e) =
-    let gone : listed party holders ≡ false = sym (listed_place holders party) ∙ le-ltb (place holders party) (length holders) e.1 in
-    rw (ne_eqb party 0 e.0, gone)
-stands_nowhere party holders (inr e) = rw (eq-eqb party 0 e)
+-- a party is looked for among the holders
+pub stands_found : (party : ℕ) (holders : List ℕ) (found : Option ℕ) → party ≢ 0 → found ≡ position (λ y. nat_eq y party) holders →
+    MatchOption found (stands party holders ≡ false) (λ at. StandsAt at party holders)
+stands_found party holders found n e =
+    let answer = e ∙ found_place holders party in
+    elim (cases_Bool (listed party holders)) [
+      | inl t ↦ rw (answer, t, ne_eqb party 0 n) (refl, (refl, ltb-true (place holders party) (length holders) (listed_place holders party ∙ t)))
+      | inr t ↦ rw (answer, t, ne_eqb party 0 n)
+    ]
 
 -- the holder and the size at a party's place
 pub holder_at : (holders : List ℕ) (h : ℕ) → place holders h < length holders → get_or holders (place holders h) 0 ≡ h

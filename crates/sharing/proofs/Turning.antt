@@ -1,80 +1,61 @@
 -- The two rounds of leftovers as the code goes through them: by turn round the roster, and along the list for those outside it.
-use Rattle.std.proofs.Common.{◌≡◌, ℕ, zero, suc, ◌+◌, ◌-◌, ◌<◌, ◌≤◌, true, false, cond, ◌&&◌, eqb, ltb, ◌⊎◌, List, [], ◌∷◌, length, get_or, take, drop, sym, refl, ap, ◌∙◌, inl, inr, add-one, arith}
-use Rattle.std.proofs.lemmas.List.{at_drop_more, at_drop_all, get_or_append_left, get_or-append_right, get_or-drop, get_or-take, length-append, length-drop, length-take}
-use Rattle.std.proofs.lemmas.Bool.{cases_Bool, eq-eqb, lt-ltb, ltb-true, ltb-false}
-use Rattle.std.proofs.lemmas.Bool.Decides.{eqb_tells, nat_tests}
-use Rattle.terms.specs.Numbers.{listed, place}
+use Rattle.std.proofs.Common.{◌≡◌, ℕ, ◌+◌, ◌-◌, ◌<◌, ◌≤◌, true, false, cond, ◌&&◌, eqb, ltb, ◌⊎◌, List, [], ◌∷◌, ◌++◌, length, Bor, Bool, Iter, MatchOption, Option, Some, None, get_or, take, drop, sym, refl, ap, ◌∙◌, inl, inr, arith}
+use Rattle.std.proofs.lemmas.Option.{same_Some}
+use Rattle.std.proofs.lemmas.List.{nil_from_length, at_drop_more, at_drop_all}
+use Rattle.std.proofs.lemmas.Bool.{cases_Bool, eq-eqb, lt-ltb}
+use Rattle.std.proofs.lemmas.Bool.Decides.{nat_tests}
+use Rattle.std.specs.Bool.{MatchBool}
+use Rattle.std.specs.Iterator.Adapters.{chain_steps}
+use Rattle.std.specs.Slice.Iter.{iter_steps}
+use Rattle.std.specs.declared.iter.Chain.{Chain}
+use Rattle.terms.specs.Numbers.{listed}
 use Rattle.sharing.specs.Draw.{unspent, among, outside, round, takers, with_leftovers, behind, turn_after}
 use Rattle.sharing.specs.Placed.{Turned}
-use Rattle.sharing.specs.Counts.{count, Single, listed_tells, single_rest, single_first, count_outside, count_round}
-use Rattle.sharing.proofs.Handing.{moved, hand_out, hand_out_is}
+use Rattle.sharing.specs.Counts.{Single, listed_tells, single_rest, single_first, count_outside, count_round}
+use Rattle.sharing.proofs.Handing.{handed, moved, hand_out, hand_out_is}
 use Rattle.sharing.specs.Remaining.{count_unspent}
 
--- ---- places in the roster ----
+-- ---- a round over two rows ----
 
-count_at : (xs : List ℕ) (at : ℕ) → at < length xs → 0 < count (get_or xs at 0) xs
-count_at [] at l = absurd (omega arith)
-count_at (x ∷ xs) zero l = grind (arith, nat_tests)
-count_at (x ∷ xs) (suc at) l = let more = count_at xs at (omega arith) in omega arith
+-- what is still to come of two rows, one behind the other
+abbrev pub to_come : Chain (Iter ℕ) (Iter ℕ) → List ℕ
+to_come it = cond it.a_done it.b.rest.now (it.a.rest.now ++ it.b.rest.now)
 
--- each of a row without repeats has its own place
-pub place_at : (roster : List ℕ) (at : ℕ) → Single roster → at < length roster → place roster (get_or roster at 0) ≡ at
-place_at [] at o l = absurd (omega arith)
-place_at (x ∷ xs) zero o l = grind (arith, nat_tests)
-place_at (x ∷ xs) (suc at) o l =
-    let there = count_at xs at (omega arith) in
-    let gone = single_first x xs o in
-    let more = place_at xs at (single_rest x xs o) (omega arith) in
-    elim (eqb_tells (get_or xs at 0) x) [
-      | inl k ↦ absurd (omega (arith, rw k.1 at there))
-      | inr k ↦ rw (k.0, more, add-one)
-    ]
+module _ (s t : Chain (Iter ℕ) (Iter ℕ)) (more : s.b_done ≡ false) where
+  -- the second row's answer, where the first has ended
+  abbrev Second : Option (Bor ℕ) → Type 0
+  Second r = MatchBool s.b_done (r ≡ None) (iter_steps s.b r t.b) × (t.a_done ≡ true)
 
--- so many steps from the turn on
-pub round_at : (roster : List ℕ) (start step at : ℕ) → start < length roster → step < length roster →
-    at ≡ cond (ltb (start + step) (length roster)) (start + step) (start + step - length roster) → get_or (round start roster) step 0 ≡ get_or roster at 0
-round_at roster start step at l m e =
-    let tail : length (drop start roster) ≡ length roster - start = length-drop start roster in
-    elim (cases_Bool (ltb (start + step) (length roster))) [
-      | inl t ↦
-          let before = ltb-true (start + step) (length roster) t in
-          let here : at ≡ start + step = rw t at e in
-          get_or_append_left (drop start roster) (take start roster) 0 step (omega arith)
-          ∙ get_or-drop start roster step 0
-          ∙ ap (λ k. get_or roster k 0) (sym here)
-      | inr t ↦
-          let past = ltb-false (start + step) (length roster) t in
-          let here : step - (length roster - start) ≡ at = omega (arith, rw t at e) in
-          get_or-append_right (drop start roster) (take start roster) (length roster - start) step 0 tail (omega arith)
-          ∙ get_or-take start roster (step - (length roster - start)) 0 (omega arith)
-          ∙ ap (λ k. get_or roster k 0) here
-    ]
+  abbrev Either : Option (Bor ℕ) → Option (Bor ℕ) → Type 0
+  Either r o = MatchOption o (Second r) (λ x. (r ≡ Some x) × (t.b ≡ s.b) × (t.a_done ≡ false))
 
--- the place behind
-pub behind_at : (roster : List ℕ) (at after : ℕ) → Single roster → at < length roster → after ≡ cond (ltb (at + 1) (length roster)) (at + 1) (at + 1 - length roster) →
-    after ≡ behind roster (get_or roster at 0)
-behind_at roster at after o l e =
-    let own = place_at roster at o l in
-    let same : cond (ltb (at + 1) (length roster)) (at + 1) (at + 1 - length roster) ≡ cond (ltb (at + 1) (length roster)) (at + 1) 0 = grind (arith, nat_tests) in
-    rw own (e ∙ same)
+  second_next : (x : Bor ℕ) → Second (Some x) → (s.b.rest.now ≡ x.now ∷ t.b.rest.now) × (t.a_done ≡ true)
+  second_next x k = (rw more at k.0, k.1)
 
--- ---- one step of a round ----
+  first_next : (x : Bor ℕ) → s.a_done ≡ false → (o : Option (Bor ℕ)) → iter_steps s.a o t.a → Either (Some x) o → to_come s ≡ x.now ∷ to_come t
+  first_next x e None h k = let w = second_next x k in rw (e, nil_from_length s.a.rest.now h.0, w.1) w.0
+  first_next x e (Some y) h k = rw (e, h, k.2, k.1) (sym (ap (λ z. z.now ∷ (t.a.rest.now ++ s.b.rest.now)) (same_Some x y k.0)))
 
-module _ (move : ℕ → ℕ → ℕ) (holders sizes xs : List ℕ) (i x : ℕ) (l : i < length xs) (e : get_or xs i 0 ≡ x) where
-  -- the party receives one
-  pub step_gives : (left turn : ℕ) (shares : List ℕ) → 0 < left → listed x (unspent holders sizes shares) ≡ true →
-      hand_out move holders sizes (drop (i + 1) xs) (left - 1) (move turn x) (with_leftovers (x ∷ []) holders shares) ≡ hand_out move holders sizes (drop i xs) left turn shares
-  step_gives left turn shares p t =
-      let here = at_drop_more (λ ys. hand_out move holders sizes ys left turn shares) xs i 0 l in
-      sym (rw (e, lt-ltb 0 left p, t) at here)
+  pub next_of_both : (x : Bor ℕ) → chain_steps iter_steps iter_steps s (Some x) t → to_come s ≡ x.now ∷ to_come t
+  next_of_both x h = pick s.a_done refl
+    where
+      pick : (d : Bool) → s.a_done ≡ d → to_come s ≡ x.now ∷ to_come t
+      pick true e = let k = second_next x (rw e at h.1) in rw (e, k.1) k.0
+      pick false e = let k = rw e at h.1 in first_next x e k.0 k.1 k.2
 
-  -- it receives none
-  pub step_passes : (left turn : ℕ) (shares : List ℕ) → (left ≡ 0) ⊎ (listed x (unspent holders sizes shares) ≡ false) →
-      hand_out move holders sizes (drop (i + 1) xs) left turn shares ≡ hand_out move holders sizes (drop i xs) left turn shares
-  step_passes left turn shares n =
-      let here = at_drop_more (λ ys. hand_out move holders sizes ys left turn shares) xs i 0 l in
-      let none : (ltb 0 left && listed x (unspent holders sizes shares)) ≡ false = grind (arith, nat_tests) in
-      sym (rw (e, none) at here)
+  second_ends : Second None → s.b.rest.now ≡ []
+  second_ends k = nil_from_length s.b.rest.now (rw more at k.0).0
+
+  first_ends : s.a_done ≡ false → (o : Option (Bor ℕ)) → iter_steps s.a o t.a → Either None o → to_come s ≡ []
+  first_ends e None h k = rw (e, nil_from_length s.a.rest.now h.0) (second_ends k)
+  first_ends e (Some y) h k = absurd cc
+
+  pub end_of_both : chain_steps iter_steps iter_steps s None t → to_come s ≡ []
+  end_of_both h = pick s.a_done refl
+    where
+      pick : (d : Bool) → s.a_done ≡ d → to_come s ≡ []
+      pick true e = rw e (second_ends (rw e at h.1))
+      pick false e = let k = rw e at h.1 in first_ends e k.0 k.1 k.2
 
 -- ---- by turn ----
 
@@ -82,41 +63,30 @@ module _ (move : ℕ → ℕ → ℕ) (holders sizes xs : List ℕ) (i x : ℕ) 
 abbrev pub on : (roster : List ℕ) → ℕ → ℕ → ℕ
 on roster turn x = behind roster x
 
-module _ (roster holders sizes : List ℕ) (start step count at party : ℕ) (o : Single roster) (n : length roster ≡ count) (l : start < count) (m : step < count)
-    (a : at ≡ cond (ltb (start + step) count) (start + step) (start + step - count)) (p : party ≡ get_or roster at 0) where
-  round_long : step < length (round start roster)
-  round_long = let e = length-append (drop start roster) (take start roster) in let f = length-drop start roster in let g = length-take start roster in omega arith
+module _ (roster holders sizes : List ℕ) (ys xs : List ℕ) (x : ℕ) (e : ys ≡ x ∷ xs) (left turn : ℕ) (shares : List ℕ) where
+  pub turn_gives : (after : ℕ) (given : List ℕ) → 0 < left → listed x (unspent holders sizes shares) ≡ true → after ≡ behind roster x →
+      given ≡ with_leftovers (x ∷ []) holders shares →
+      hand_out (on roster) holders sizes xs (left - 1) after given ≡ hand_out (on roster) holders sizes ys left turn shares
+  turn_gives after given p t a g = rw (a, g) (sym (rw (e, lt-ltb 0 left p, t)))
 
-  round_here : get_or (round start roster) step 0 ≡ party
-  round_here = round_at roster start step at (omega arith) (omega arith) (rw n a) ∙ sym p
-
-  pub turn_gives : (after left turn : ℕ) (shares given : List ℕ) → after ≡ cond (ltb (at + 1) count) (at + 1) (at + 1 - count) → 0 < left →
-      listed party (unspent holders sizes shares) ≡ true → given ≡ with_leftovers (party ∷ []) holders shares →
-      hand_out (on roster) holders sizes (drop (step + 1) (round start roster)) (left - 1) after given ≡ hand_out (on roster) holders sizes (drop step (round start roster)) left turn shares
-  turn_gives after left turn shares given b q t g =
-      let within : at < count = grind (arith, nat_tests) in
-      let moves : after ≡ behind roster party = behind_at roster at after o (omega arith) (rw n b) ∙ ap (behind roster) (sym p) in
-      rw (moves, g) (step_gives (on roster) holders sizes (round start roster) step party round_long round_here left turn shares q t)
-
-  pub turn_passes : (left turn : ℕ) (shares : List ℕ) → (left ≡ 0) ⊎ (listed party (unspent holders sizes shares) ≡ false) →
-      hand_out (on roster) holders sizes (drop (step + 1) (round start roster)) left turn shares ≡ hand_out (on roster) holders sizes (drop step (round start roster)) left turn shares
-  turn_passes left turn shares q = step_passes (on roster) holders sizes (round start roster) step party round_long round_here left turn shares q
+  pub turn_passes : (left ≡ 0) ⊎ (listed x (unspent holders sizes shares) ≡ false) →
+      hand_out (on roster) holders sizes xs left turn shares ≡ hand_out (on roster) holders sizes ys left turn shares
+  turn_passes n =
+      let none : (ltb 0 left && listed x (unspent holders sizes shares)) ≡ false = grind (arith, nat_tests) in
+      sym (rw (e, none))
 
 moved_on : (roster : List ℕ) (turn : ℕ) (xs : List ℕ) → moved (on roster) turn xs ≡ turn_after roster turn xs
 moved_on roster turn [] = refl
 moved_on roster turn (x ∷ xs) = moved_on roster (behind roster x) xs
 
 -- the round is done
-pub turned : (roster holders sizes : List ℕ) (start step number : ℕ) (shares : List ℕ) (left turn : ℕ) (given : List ℕ) → Single roster → length roster ≤ step →
+pub turned : (roster holders sizes : List ℕ) (start number : ℕ) (shares : List ℕ) (left turn : ℕ) (given : List ℕ) → Single roster →
     length shares ≡ length holders →
-    hand_out (on roster) holders sizes (drop step (round start roster)) left turn given ≡ hand_out (on roster) holders sizes (round start roster) number start shares →
+    handed left turn given ≡ hand_out (on roster) holders sizes (round start roster) number start shares →
     Turned roster start number holders sizes shares left turn given
-turned roster holders sizes start step number shares left turn given o l e h =
-    let whole : length (round start roster) ≤ step =
-    let a = length-append (drop start roster) (take start roster) in let b = length-drop start roster in let c = length-take start roster in omega arith in
+turned roster holders sizes start number shares left turn given o e h =
     let once : Single (round start roster) = λ x. omega (arith, count_round x start roster, o x) in
-    let done = sym (at_drop_all (λ xs. hand_out (on roster) holders sizes xs left turn given) (round start roster) step whole)
-    ∙ h ∙ hand_out_is (on roster) holders sizes (round start roster) number start shares once e in
+    let done = h ∙ hand_out_is (on roster) holders sizes (round start roster) number start shares once e in
     record {
       left_is = ap (λ d. d.left) done;
       turn_is = ap (λ d. d.turn) done ∙ moved_on roster start (take number (takers roster start holders sizes shares));

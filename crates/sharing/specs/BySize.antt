@@ -17,14 +17,6 @@ use Rattle.sharing.specs.Writing.{wrote}
 pub part_le : (size n total : ℕ) → n ≤ total → 0 < total → size * n / total ≤ size
 part_le size n total l p = div-le_of_le-mul total (omega (arith, mul-le-mul_left size l))
 
--- sizes in range add up to no more than so many times the most
-pub sum_most : (most : ℕ) (xs : List ℕ) → all_within most xs ≡ true → sum xs ≤ length xs * most
-sum_most most [] v = omega arith
-sum_most most (x ∷ xs) v =
-    let w = and_parts (within most x) (all_within most xs) v in
-    let a = sum_most most xs w.1 in
-    let b = leb-true x most (and_parts (nat_le 1 x) (nat_le x most) w.0).1 in omega arith
-
 -- one more plain share is written
 pub plain_more : (n total : ℕ) (sizes out : List ℕ) (i share : ℕ) → i < length sizes → i < length out → share ≡ slice_index sizes i * n / total →
     take (i + 1) (slice_set out i share) ++ plain n total (drop (i + 1) sizes) ≡ take i out ++ plain n total (drop i sizes)

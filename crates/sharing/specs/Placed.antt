@@ -21,10 +21,6 @@ abbrev pub PrevailsAt : (at takes specialist : ℕ) → Inputs → Type 0
 PrevailsAt at takes specialist i =
     (prevails specialist i ≡ true) × IsPlace at (entitled specialist i) i.holders × (takes ≡ entitlement specialist (entitled specialist i) i)
 
--- one size and one share for each holder
-abbrev pub Paired : (holders sizes shares : List ℕ) → Type 0
-Paired holders sizes shares = (length sizes ≡ length holders) × (length shares ≡ length sizes)
-
 -- a round of leftovers by turn: from a turn, a number to give and shares, what is left, the turn and the shares afterwards
 pub record Turned (roster : List ℕ) (turn number : ℕ) (holders sizes shares : List ℕ) (left after : ℕ) (given : List ℕ) : Type 0 where
   pub left_is : left ≡ number - length (takers roster turn holders sizes shares)

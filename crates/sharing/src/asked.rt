@@ -1,5 +1,7 @@
 // What a sharing rule is asked: to share a number of contracts among the entries of one class at one price.
+ghost use Rattle.sharing.specs.Rule.{Valid, inputs};
 
+// Holders beside sizes, and 0 for nobody, are how every rule is asked: these are the numbers that the markets send.
 #[derive(Clone, Copy)]
 pub struct Asked<'a> {
     // who stands at the price, in list order, and with how many contracts
@@ -10,4 +12,5 @@ pub struct Asked<'a> {
     pub number: u32,
     // the party that the order is directed to, 0 for none
     pub directed: u32,
+    ghost valid: { Valid (inputs holders.now sizes.now arriving number directed) },
 }

@@ -1,15 +1,6 @@
 // Shares by size, and leftovers in list order: what pro rata and the draw rule have in common.
-ghost use Rattle.std.specs.Prelude.{◌≡◌, ◌*◌, ◌/◌, ◌^◌, ◌<◌, ◌≤◌, length};
-ghost use Rattle.terms.specs.Numbers.{sum as added_up};
+ghost use Rattle.std.specs.Prelude.{◌≡◌, ◌*◌, ◌/◌, ◌<◌, ◌≤◌, length};
 ghost use Rattle.sharing.specs.ProRata.{plain, one_each};
-
-// All numbers added up.
-pub(crate) fn sum(numbers: &[u32]) -> u32
-    requires { added_up numbers.now < 2 ^ 32 }
-    ensures { result ≡ added_up numbers.now }
-{
-    numbers.iter().sum()
-}
 
 // The part of `number` that a size has of the total, rounded down.
 pub(crate) fn part(size: u32, number: u32, total: u32) -> u32
@@ -24,6 +15,7 @@ pub(crate) fn plain_shares(number: u32, total: u32, sizes: &[u32], out: &mut [u3
     requires { (number ≤ total) × ((0 < total) × (length out.old ≡ length sizes.now)) }
     ensures { out.new ≡ plain number total sizes.now }
 {
+    // by index: when a `zip` over `iter_mut` is done, a proof knows nothing of what it wrote
     for (i, &size) in sizes.iter().enumerate() {
         out[i] = part(size, number, total);
     }
@@ -35,6 +27,7 @@ pub(crate) fn give_one_each(left: u32, sizes: &[u32], shares: &mut [u32])
     ensures { shares.new ≡ one_each left sizes.now shares.old }
 {
     let mut left = left;
+    // by index, as above
     for (i, &size) in sizes.iter().enumerate() {
         if left > 0 && shares[i] < size {
             shares[i] += 1;

@@ -1,53 +1,58 @@
 // The draw rule, the makers' rule: making it, its turn, and how it shares.
-ghost use Rattle.std.specs.Prelude.{◌≡◌, ◌<◌, true, [], length, if◌then◌else◌, MatchOption, slice_index};
-ghost use Rattle.sharing.specs.Made.{drawn, shares_of, next_of};
-ghost use Rattle.sharing.specs.Making.{draws, may_specialize};
+ghost use Rattle.std.specs.Prelude.{◌≡◌, ◌<◌, true, false, [], length, if◌then◌else◌, MatchOption, MatchResult, slice_index};
+ghost use Rattle.sharing.specs.Made.{begun, drawn, shares_of, next_of};
+ghost use Rattle.sharing.specs.Making.{draws, why_not};
 ghost use Rattle.sharing.specs.Counts.{distinct_single};
 ghost use Rattle.sharing.specs.Remaining.{draw_fair, draw_still};
 ghost use Rattle.sharing.specs.Rosters.{roster_once, still_rule};
 
 use crate::asked::Asked;
-use crate::by_size::sum;
 use crate::draw_rule::{DrawRule, DrawState};
 use crate::entitlement::share_base;
 use crate::leftovers::{give_by_turn, give_outside};
 use crate::roster::Roster;
 use crate::rule::SharingRule;
+use terms::{Refusal, sum};
 
 impl DrawRule {
-    // The rule for a day's roster and its specialist, 0 for none, with the first at the turn. Where the roster or the specialist
-    // would be refused, it is made from an empty roster and no specialist.
+    // The rule for a day's roster and its specialist, 0 for none, with the first at the turn. Refused as the roster is.
+    pub fn draw(parties: &[u32], specialist: u32) -> Result<DrawRule, Refusal>
+        ensures { MatchResult result (λ rule. (draws parties.now specialist ≡ true) × begun parties.now specialist rule) (λ why. (draws parties.now specialist ≡ false) × (why ≡ why_not parties.now)) }
+    {
+        let roster = Roster::draw_with(parties, specialist)?;
+        Ok(DrawRule {
+            roster,
+            specialist,
+            state: DrawState { turn: 0 },
+        })
+    }
+
+    // The same; where it would be refused, it is made from an empty roster and no specialist.
     pub fn new(parties: &[u32], specialist: u32) -> DrawRule
         ensures roster { drawn result.roster ≡ (if draws parties.now specialist then parties.now else []) }
         ensures specialist { result.specialist ≡ (if draws parties.now specialist then specialist else 0) }
         ensures turn { result.state.turn ≡ 0 }
     {
-        match Roster::draw_with(parties, specialist) {
-            Ok(roster) => DrawRule::of(roster, specialist),
-            Err(_) => DrawRule::of(Roster::empty(), 0),
-        }
-    }
-
-    // The rule with the first at the turn.
-    fn of(roster: Roster, specialist: u32) -> DrawRule
-        requires { may_specialize specialist (drawn roster) ≡ true }
-        ensures { (result.roster ≡ roster) × ((result.specialist ≡ specialist) × (result.state.turn ≡ 0)) }
-    {
-        DrawRule {
-            roster,
-            specialist,
-            state: DrawState { turn: 0 },
-        }
+        DrawRule::draw(parties, specialist).unwrap_or_default()
     }
 
     // The party whose turn it is; none where the roster is empty.
     pub fn turn(&self) -> Option<u32>
         ensures { MatchOption result (drawn self.now.roster ≡ []) (λ party. (self.now.state.turn < length (drawn self.now.roster)) × (party ≡ slice_index (drawn self.now.roster) self.now.state.turn)) }
     {
-        if self.roster.len() == 0 {
-            return None;
+        self.roster.parties().get(self.state.turn).copied()
+    }
+}
+
+impl Default for DrawRule {
+    ghost is_default = { begun [] 0 };
+
+    fn default() -> DrawRule {
+        DrawRule {
+            roster: Roster::empty(),
+            specialist: 0,
+            state: DrawState { turn: 0 },
         }
-        Some(self.roster.party(self.state.turn))
     }
 }
 
@@ -69,14 +74,7 @@ impl SharingRule for DrawRule {
         }
         share_base(self.specialist, total, asked, out);
         let left = asked.number - sum(out);
-        let left = give_by_turn(
-            &self.roster,
-            &mut self.state,
-            left,
-            asked.holders,
-            asked.sizes,
-            out,
-        );
-        give_outside(&self.roster, left, asked.holders, asked.sizes, out);
+        let left = give_by_turn(&self.roster, &mut self.state, left, asked, out);
+        give_outside(&self.roster, left, asked, out);
     }
 }

@@ -1,7 +1,8 @@
 // Drawing a roster, and places in it.
-ghost use Rattle.std.specs.Prelude.{◌≡◌, ◌+◌, ◌-◌, ◌<◌, ◌≤◌, Bool, true, false, [], length, if◌then◌else◌, MatchResult, nat_lt, slice_index};
+ghost use Rattle.std.specs.Prelude.{◌≡◌, ◌+◌, ◌-◌, ◌<◌, ◌≤◌, Bool, true, false, [], length, if◌then◌else◌, MatchResult, nat_lt, position, slice_index, unwrap_or, ◌==◌};
 ghost use Rattle.terms.specs.Numbers.{listed as stands_in, place as place_of};
 ghost use Rattle.sharing.specs.Making.{drawable, draws, why_not};
+ghost use Rattle.sharing.specs.Draw.{behind as behind_of};
 ghost use Rattle.sharing.specs.Made.{drawn};
 
 use crate::roster::Roster;
@@ -19,7 +20,7 @@ impl Roster {
         if !all_within(MOST_PARTY, parties) || !distinct(parties) {
             return Err(Refusal::BadParty);
         }
-        let mut places = [0u32; 16];
+        let mut places = [0; MOST_PARTIES];
         places[0..count].copy_from_slice(parties);
         Ok(Roster {
             parties: places,
@@ -43,7 +44,7 @@ impl Roster {
         ensures { drawn result ≡ [] }
     {
         Roster {
-            parties: [0; 16],
+            parties: [0; MOST_PARTIES],
             count: 0,
         }
     }
@@ -62,9 +63,10 @@ impl Roster {
         self.parties().len()
     }
 
-    // The party's place in the draw, from 0; the roster's length where it is not drawn.
-    pub fn place(&self, party: u32) -> usize
-        ensures { result ≡ place_of (drawn self.now) party }
+    // The party's place in the draw, from 0.
+    pub fn place(&self, party: u32) -> Option<usize>
+        ensures found { result ≡ position (λ other. other == party) (drawn self.now) }
+        ensures place { unwrap_or result (length (drawn self.now)) ≡ place_of (drawn self.now) party }
     {
         place(self.parties(), party)
     }
@@ -76,23 +78,13 @@ impl Roster {
         listed(party, self.parties())
     }
 
-    // The party at a place.
-    pub(crate) fn party(&self, place: usize) -> u32
-        requires { place < length (drawn self.now) }
-        ensures { result ≡ slice_index (drawn self.now) place }
+    // The place behind a party's; the first follows the last.
+    pub(crate) fn behind(&self, party: u32) -> usize
+        ensures { result ≡ behind_of (drawn self.now) party }
     {
-        self.parties[place]
-    }
-
-    // A place that may have run past the end by less than the roster's length: the first follows the last.
-    pub(crate) fn wrapped(&self, place: usize) -> usize
-        requires { place < self.now.count + self.now.count }
-        ensures { result ≡ (if nat_lt place self.now.count then place else place - self.now.count) }
-    {
-        if place < self.count {
-            place
-        } else {
-            place - self.count
+        match self.place(party) {
+            Some(at) if at + 1 < self.count => at + 1,
+            _ => 0,
         }
     }
 }

@@ -4,7 +4,6 @@ ghost use Rattle.terms.specs.Numbers.{sum as added_up};
 ghost use Rattle.sharing.specs.Asking.{inputs_of};
 ghost use Rattle.sharing.specs.Draw.{base_shares, entitled, entitlement as entitled_to, percentage as percentage_of, prevails, stands};
 ghost use Rattle.sharing.specs.Placed.{EntitledAt, IsPlace, PrevailsAt, StandsAt};
-ghost use Rattle.sharing.specs.Rule.{Valid};
 
 use crate::asked::Asked;
 use crate::by_size::{part, plain_shares};
@@ -29,28 +28,22 @@ fn percentage(rivals: usize, arriving: u32, directed: bool, specialist: bool) ->
 fn standing_place(party: u32, holders: &[u32]) -> Option<usize>
     ensures { MatchOption result (stands party holders.now ≡ false) (λ at. StandsAt at party holders.now) }
 {
-    let at = place(holders, party);
-    if party != 0 && at < holders.len() {
-        Some(at)
-    } else {
-        None
+    if party == 0 {
+        return None;
     }
+    place(holders, party)
 }
 
 // Where the party stands that may be entitled: the directed one, or else the specialist.
 fn entitled_place(specialist: u32, asked: Asked<'_>) -> Option<usize>
     ensures { MatchOption result (entitled specialist (inputs_of asked.entry) ≡ 0) (λ at. EntitledAt at specialist (inputs_of asked.entry)) }
 {
-    match standing_place(asked.directed, asked.holders) {
-        Some(at) => Some(at),
-        None => standing_place(specialist, asked.holders),
-    }
+    standing_place(asked.directed, asked.holders).or(standing_place(specialist, asked.holders))
 }
 
 // What the party at a place is entitled to: its percentage of the number, cut to its size.
 fn entitlement_at(at: usize, specialist: u32, asked: Asked<'_>) -> u32
-    requires valid { Valid (inputs_of asked) }
-    requires at { IsPlace at (entitled specialist (inputs_of asked)) asked.holders.now }
+    requires { IsPlace at (entitled specialist (inputs_of asked)) asked.holders.now }
     ensures { result ≡ entitled_to specialist (entitled specialist (inputs_of asked.entry)) (inputs_of asked.entry) }
 {
     let holder = asked.holders[at];
@@ -72,8 +65,7 @@ struct Entitlement {
 
 // The entitlement that prevails, if one does: it is above the plain share of its holder.
 fn prevailing(specialist: u32, total: u32, asked: Asked<'_>) -> Option<Entitlement>
-    requires valid { Valid (inputs_of asked) }
-    requires short { (total ≡ added_up asked.sizes.now) × (asked.number < total) }
+    requires { (total ≡ added_up asked.sizes.now) × (asked.number < total) }
     ensures { MatchOption result (prevails specialist (inputs_of asked.entry) ≡ false) (λ e. PrevailsAt e.at e.takes specialist (inputs_of asked.entry)) }
 {
     let at = entitled_place(specialist, asked)?;
@@ -88,7 +80,7 @@ fn prevailing(specialist: u32, total: u32, asked: Asked<'_>) -> Option<Entitleme
 
 // Writes the shares before leftovers: with the entitlement first where one prevails.
 pub(crate) fn share_base(specialist: u32, total: u32, asked: Asked<'_>, out: &mut [u32])
-    requires valid { (Valid (inputs_of asked)) × (length out.old ≡ length asked.sizes.now) }
+    requires room { length out.old ≡ length asked.sizes.now }
     requires short { (total ≡ added_up asked.sizes.now) × (asked.number < total) }
     ensures { out.new ≡ base_shares specialist (inputs_of asked.entry) }
 {

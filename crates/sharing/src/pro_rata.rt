@@ -4,12 +4,13 @@ ghost use Rattle.std.specs.Prelude.{refl};
 ghost use Rattle.sharing.specs.BySize.{pro_rata_fair};
 
 use crate::asked::Asked;
-use crate::by_size::{give_one_each, plain_shares, sum};
+use crate::by_size::{give_one_each, plain_shares};
 use crate::rule::SharingRule;
+use terms::sum;
 
 // Each entry takes its part by size, rounded down, and leftovers go one each in list order. It has no state.
-#[derive(Clone, Copy)]
-pub struct ProRata {}
+#[derive(Clone, Copy, Default, PartialEq, Eq, Debug)]
+pub struct ProRata;
 
 impl SharingRule for ProRata {
     ghost shares = { λ s i. pro_rata i.number i.sizes };

@@ -2,10 +2,12 @@
 ghost use Rattle.std.specs.Prelude.{◌≡◌, ◌≤◌, true, take};
 ghost use Rattle.sharing.specs.Making.{drawable};
 
-// At most 16 parties, each from 1 to 65,535, none twice.
+use terms::MOST_PARTIES;
+
+// At most 16 parties, each from 1 to 65,535, none twice. A row with its own count would make it, and every rule, a type that is moved.
 #[derive(Clone, Copy)]
 pub struct Roster {
-    pub(crate) parties: [u32; 16],
+    pub(crate) parties: [u32; MOST_PARTIES],
     pub(crate) count: usize,
     ghost sound: { (count ≤ 16) × (drawable (take count parties) ≡ true) },
 }

@@ -1,6 +1,6 @@
 // The sharing rule: its meaning, what it owes, and its call.
 ghost use Rattle.std.specs.Prelude.{◌≡◌, ℕ, List, length};
-ghost use Rattle.sharing.specs.Rule.{Inputs, Valid, Lawful};
+ghost use Rattle.sharing.specs.Rule.{Inputs, Lawful};
 ghost use Rattle.sharing.specs.Asking.{inputs_of};
 
 use crate::asked::Asked;
@@ -12,9 +12,9 @@ pub trait SharingRule: Sized {
 
     ghost next: { Self → Inputs → Self };
 
-    // Writes one share for each entry and goes on to the next state. Only a book calls it, with inputs that it knows to be valid.
+    // Writes one share for each entry and goes on to the next state.
     fn share(&mut self, asked: Asked<'_>, out: &mut [u32])
-        requires { (Valid (inputs_of asked)) × (length out.old ≡ length asked.sizes.now) }
+        requires { length out.old ≡ length asked.sizes.now }
         ensures shares { out.new ≡ shares self.old (inputs_of asked.entry) }
         ensures next { self.new ≡ next self.old (inputs_of asked.entry) };
 

@@ -7,8 +7,8 @@ use crate::asked::Asked;
 use crate::rule::SharingRule;
 
 // Each entry in list order takes the lesser of its size and what remains. It has no state.
-#[derive(Clone, Copy)]
-pub struct TimeOrder {}
+#[derive(Clone, Copy, Default, PartialEq, Eq, Debug)]
+pub struct TimeOrder;
 
 impl SharingRule for TimeOrder {
     ghost shares = { λ s i. in_time i.number i.sizes };
@@ -19,6 +19,7 @@ impl SharingRule for TimeOrder {
 
     fn share(&mut self, asked: Asked<'_>, out: &mut [u32]) {
         let mut left = asked.number;
+        // by index: when a `zip` over `iter_mut` is done, a proof knows nothing of what it wrote
         for (i, &size) in asked.sizes.iter().enumerate() {
             let takes = size.min(left);
             out[i] = takes;

@@ -1,61 +1,53 @@
--- Rows of numbers, read from the front on: what one more number says.
-use Rattle.std.proofs.Common.{◌≡◌, ℕ, ◌+◌, ◌-◌, ◌<◌, ◌≤◌, true, false, cond, not, ◌&&◌, eqb, ltb, List, [], ◌∷◌, ◌++◌, length, get_or, take, drop, fold, sym, refl, ◌∙◌, arith}
-use Rattle.std.proofs.lemmas.List.{at_drop_more, at_drop_all, take_rest}
-use Rattle.std.proofs.lemmas.Bool.{and_parts, not-true, eq-eqb, ne_eqb}
+-- Rows of numbers: where a number stands, and what one more number at the end says.
+use Rattle.std.proofs.Common.{◌≡◌, ℕ, ◌+◌, ◌*◌, ◌<◌, ◌≤◌, true, false, cond, not, nat_eq, eqb, leb, ltb, List, [], ◌∷◌, ◌++◌, length, fold, Some, None, inl, inr, unwrap_or, sym, refl, ◌∙◌, arith}
+use Rattle.std.specs.List.{list_any, position, prefix_len}
+use Rattle.std.proofs.lemmas.Bool.{and_parts, cases_Bool, leb-true, not-true}
 use Rattle.std.proofs.lemmas.Bool.Decides.{nat_tests}
 use Rattle.terms.specs.Numbers.{sum, listed, distinct, place, within, all_within}
 
 -- ---- places ----
 
-pub place_here : (xs : List ℕ) (i x : ℕ) → i < length xs → get_or xs i 0 ≡ x → place (drop i xs) x ≡ 0
-place_here xs i x lt e =
-    let here : place (drop i xs) x ≡ cond (eqb x (get_or xs i 0)) 0 (place (drop (i + 1) xs) x + 1) = at_drop_more (λ ys. place ys x) xs i 0 lt in
-    here ∙ rw (eq-eqb x (get_or xs i 0) (sym e))
-
-pub place_on : (xs : List ℕ) (i x : ℕ) → i < length xs → (get_or xs i 0 ≡ x → ⊥) → place (drop i xs) x ≡ place (drop (i + 1) xs) x + 1
-place_on xs i x lt n =
-    let here : place (drop i xs) x ≡ cond (eqb x (get_or xs i 0)) 0 (place (drop (i + 1) xs) x + 1) = at_drop_more (λ ys. place ys x) xs i 0 lt in
-    here ∙ rw (ne_eqb x (get_or xs i 0) (λ e. n (sym e)))
-
-pub place_end : (xs : List ℕ) (i x : ℕ) → length xs ≤ i → place (drop i xs) x ≡ 0
-place_end xs i x le = at_drop_all (λ ys. place ys x) xs i le
-
-pub place_le : (xs : List ℕ) (x : ℕ) → place xs x ≤ length xs
-place_le [] x = omega arith
-place_le (y ∷ ys) x = let a = place_le ys x in grind arith
+-- the first number that equals x stands at its place
+place_first : (xs : List ℕ) (x : ℕ) → prefix_len (λ y. not (nat_eq y x)) xs ≡ place xs x
+place_first [] x = refl
+place_first (y ∷ ys) x = let a = place_first ys x in grind (arith, nat_tests)
 
 -- who has a place before the end is listed
 pub listed_place : (xs : List ℕ) (x : ℕ) → ltb (place xs x) (length xs) ≡ listed x xs
 listed_place [] x = refl
 listed_place (y ∷ ys) x = let a = listed_place ys x in grind (arith, nat_tests)
 
--- ---- each number in range, and none twice ----
+-- a number that equals one of the row is listed
+pub listed_any : (xs : List ℕ) (x : ℕ) → list_any (λ y. nat_eq y x) xs ≡ listed x xs
+listed_any [] x = refl
+listed_any (y ∷ ys) x = let a = listed_any ys x in grind (arith, nat_tests)
 
-pub ranged_off : (most : ℕ) (xs : List ℕ) (i : ℕ) → i < length xs → within most (get_or xs i 0) ≡ false → all_within most (drop i xs) ≡ false
-ranged_off most xs i lt e =
-    let here : all_within most (drop i xs) ≡ (within most (get_or xs i 0) && all_within most (drop (i + 1) xs)) = at_drop_more (all_within most) xs i 0 lt in
-    here ∙ rw e
+pub found_place : (xs : List ℕ) (x : ℕ) → position (λ y. nat_eq y x) xs ≡ cond (listed x xs) (Some (place xs x)) None
+found_place xs x = rw (place_first xs x, listed_place xs x) refl
 
-pub ranged_on : (most : ℕ) (xs : List ℕ) (i : ℕ) → i < length xs → within most (get_or xs i 0) ≡ true → all_within most (drop i xs) ≡ all_within most (drop (i + 1) xs)
-ranged_on most xs i lt e =
-    let here : all_within most (drop i xs) ≡ (within most (get_or xs i 0) && all_within most (drop (i + 1) xs)) = at_drop_more (all_within most) xs i 0 lt in
-    here ∙ rw e
+-- a number that is not listed has its place behind the last
+place_end : (xs : List ℕ) (x : ℕ) → listed x xs ≡ false → place xs x ≡ length xs
+place_end [] x n = refl
+place_end (y ∷ ys) x n = let a = place_end ys x in grind (arith, nat_tests)
 
--- the numbers behind place i, as a part of the row gives them
-abbrev behind : List ℕ → ℕ → List ℕ
-behind xs i = take (length xs - (i + 1)) (drop (i + 1) xs)
+pub place_or_end : (xs : List ℕ) (x : ℕ) → unwrap_or (position (λ y. nat_eq y x) xs) (length xs) ≡ place xs x
+place_or_end xs x =
+    rw (found_place xs x)
+    (elim (cases_Bool (listed x xs)) [ inl t ↦ rw t refl | inr t ↦ rw t (sym (place_end xs x t)) ])
 
-pub repeats_off : (xs : List ℕ) (i : ℕ) → i < length xs → listed (get_or xs i 0) (behind xs i) ≡ true → distinct (drop i xs) ≡ false
-repeats_off xs i lt e =
-    let here : distinct (drop i xs) ≡ (not (listed (get_or xs i 0) (drop (i + 1) xs)) && distinct (drop (i + 1) xs)) = at_drop_more distinct xs i 0 lt in
-    here ∙ rw (rw take_rest at e)
+-- what was found, or was not
+pub found_at : (xs : List ℕ) (x at : ℕ) → Some at ≡ position (λ y. nat_eq y x) xs → (at ≡ place xs x) × (at < length xs)
+found_at xs x at e =
+    let found = e ∙ found_place xs x in
+    let there = listed_place xs x in (grind (arith, nat_tests), grind (arith, nat_tests))
 
-pub repeats_on : (xs : List ℕ) (i : ℕ) → i < length xs → listed (get_or xs i 0) (behind xs i) ≡ false → distinct (drop i xs) ≡ distinct (drop (i + 1) xs)
-repeats_on xs i lt e =
-    let here : distinct (drop i xs) ≡ (not (listed (get_or xs i 0) (drop (i + 1) xs)) && distinct (drop (i + 1) xs)) = at_drop_more distinct xs i 0 lt in
-    here ∙ rw (rw take_rest at e)
+pub found_nowhere : (xs : List ℕ) (x : ℕ) → None ≡ position (λ y. nat_eq y x) xs → length xs ≤ place xs x
+found_nowhere xs x e =
+    let found = e ∙ found_place xs x in
+    let there = listed_place xs x in grind (arith, nat_tests)
 
--- one more number at the end
+-- ---- one more number at the end ----
+
 pub distinct_push : (xs : List ℕ) (x : ℕ) → distinct xs ≡ true → listed x xs ≡ false → distinct (xs ++ x ∷ []) ≡ true
 distinct_push [] x d n = refl
 distinct_push (y ∷ ys) x d n =
@@ -78,3 +70,11 @@ ranged_push most (y ∷ ys) x d w =
 pub sum_folded : (a : ℕ) (xs : List ℕ) → fold (λ b x. b + x) a xs ≡ a + sum xs
 sum_folded a [] = omega arith
 sum_folded a (x ∷ xs) = let e = sum_folded (a + x) xs in omega arith
+
+-- numbers in range add up to no more than so many times the most
+pub sum_most : (most : ℕ) (xs : List ℕ) → all_within most xs ≡ true → sum xs ≤ length xs * most
+sum_most most [] v = omega arith
+sum_most most (x ∷ xs) v =
+    let w = and_parts (within most x) (all_within most xs) v in
+    let a = sum_most most xs w.1 in
+    let b = leb-true x most (and_parts (leb 1 x) (leb x most) w.0).1 in omega arith

@@ -1,5 +1,6 @@
 -- Rows of numbers: sums, membership, places, and ranges.
 use Rattle.std.specs.Prelude.{ℕ, ◌+◌, Bool, true, false, cond, not, ◌&&◌, ◌||◌, List, [], ◌∷◌, ◌==◌, nat_le}
+use Rattle.std.specs.List.{list_all}
 
 -- all numbers added up
 abbrev pub sum : List ℕ → ℕ
@@ -27,5 +28,4 @@ within most n = nat_le 1 n && nat_le n most
 
 -- each number is from 1 to the most
 abbrev pub all_within : (most : ℕ) → List ℕ → Bool
-all_within most [] = true
-all_within most (n ∷ ns) = within most n && all_within most ns
+all_within most ns = list_all (within most) ns

@@ -1,4 +1,4 @@
-// The calls of an open book and what they answer, with their numbers as they were sent.
+// The calls of an open book and what they answer, with their numbers as they were sent, so that each is refused by its own number.
 
 // A Trade is given its three blocks beside the call.
 #[derive(Clone, Copy, PartialEq, Eq, Debug)]

@@ -3,18 +3,18 @@
 #![tactic(auto)]
 
 mod calls;
-mod classes;
+mod class;
 mod limits;
 mod numbers;
 mod refusal;
-mod sides;
+mod side;
 
 pub use calls::{Answer, Call};
-pub use classes::{CUSTOMERS, FIRMS, MAKERS};
+pub use class::Class;
 pub use limits::{
     MOST_CONTRACTS, MOST_ENTRIES, MOST_ORDER_NUMBER, MOST_ORDERS, MOST_PARTIES, MOST_PARTY,
     MOST_PRICE, MOST_QUOTES, MOST_TRADED,
 };
-pub use numbers::{all_within, distinct, listed, place, within};
+pub use numbers::{all_within, distinct, listed, place, sum, within};
 pub use refusal::Refusal;
-pub use sides::{BIDS, OFFERS};
+pub use side::Side;

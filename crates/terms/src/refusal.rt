@@ -5,15 +5,17 @@ ghost use Rattle.terms.specs.Refusals.{number_of};
 #[derive(Clone, Copy, PartialEq, Eq, Debug)]
 pub enum Refusal {
     // a roster of more than 16 parties
-    TooManyParties,
+    TooManyParties = 3,
     // a party out of 1 to 65,535, or drawn twice
-    BadParty,
-    // a specialist that is neither 0 nor drawn
-    SpecialistNotDrawn,
+    BadParty = 4,
+    // a specialist that is not drawn
+    SpecialistNotDrawn = 5,
+    // a class that the call does not know
+    BadClass = 7,
     // a block of the wrong length: it has 130 numbers, or 34 for makers
-    WrongLength,
+    WrongLength = 16,
     // a row of numbers that is not a written block
-    NotWritten,
+    NotWritten = 17,
 }
 
 impl Refusal {
@@ -21,12 +23,6 @@ impl Refusal {
     pub fn number(self) -> u32
         ensures { result ≡ number_of self }
     {
-        match self {
-            Refusal::TooManyParties => 3,
-            Refusal::BadParty => 4,
-            Refusal::SpecialistNotDrawn => 5,
-            Refusal::WrongLength => 16,
-            Refusal::NotWritten => 17,
-        }
+        self as u32
     }
 }

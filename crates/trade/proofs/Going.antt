@@ -1,7 +1,6 @@
 -- A Trade under way: from where it has come to, it ends as it would have from the start.
-use Rattle.std.proofs.Common.{◌≡◌, ℕ, ◌+◌, ◌-◌, ◌<◌, ◌≤◌, true, false, eqb, List, [], ◌∷◌, ◌++◌, map, length, drop, sym, refl, ap, ◌∙◌, subst, inl, inr, arith}
-use Rattle.std.proofs.lemmas.List.{drop-drop, drop-map}
-use Rattle.std.proofs.lemmas.Bool.{cases_Bool, lt-ltb, both_ways}
+use Rattle.std.proofs.Common.{◌≡◌, ℕ, ◌+◌, ◌-◌, ◌<◌, ◌≤◌, true, false, List, [], ◌∷◌, ◌++◌, map, length, drop, sym, refl, ap, ◌∙◌, subst, arith, None, Some}
+use Rattle.std.proofs.lemmas.List.{drop-drop, drop-map, length-map}
 use Rattle.blocks.specs.Reading.{count_in}
 use Rattle.blocks.specs.declared.Fill.{Fill}
 use Rattle.kept.specs.Orders.{order_shown, order_lower}
@@ -15,15 +14,16 @@ use Rattle.model.specs.Prices.{prices}
 use Rattle.model.specs.Tables.{Tables}
 use Rattle.model.specs.Trading.{Rule, Swept, at_end, ◌then_swept◌}
 use Rattle.serving.specs.Filling.{all_filled_in}
-use Rattle.serving.specs.Stretch.{front, here, lower_all}
-use Rattle.trade.specs.Level.{Filled, Ready, ServesLevel, level_at}
-use Rattle.trade.specs.Prices.{BestFirst, best_ahead, no_price}
-use Rattle.trade.specs.State.{State, state, to_come}
-use Rattle.trade.specs.Sweep.{outcome, ends_in, swept_with, outcome_from}
+use Rattle.serving.specs.Stretch.{here, lower_all}
+use Rattle.trade.specs.Level.{Filled, LevelServed, Ready, ServesLevel, level_at}
+use Rattle.trade.specs.Prices.{BestFirst, best_ahead}
+use Rattle.trade.specs.State.{SameRoom, State, start, state, to_come}
+use Rattle.trade.specs.Sweep.{Sweeps, outcome, ends_in, swept_with, outcome_from}
 use Rattle.trade.specs.declared.incoming.Incoming.{Incoming}
+use Rattle.trade.specs.declared.market.Market.{Market}
 use Rattle.trade.specs.declared.reached.Reached.{Reached}
 use Rattle.trade.proofs.Sorting.{past, past_drop}
-use Rattle.trade.proofs.Walking.{pasts, all_sorted, first_past, three_same, walk_step, walk_end, walk_nothing, some_best}
+use Rattle.trade.proofs.Walking.{pasts, all_sorted, first_past, three_same, walk_step, walk_end, walk_nothing, walk_out, some_best}
 
 -- ---- one class ----
 
@@ -85,11 +85,16 @@ same_end : {S T : Type 0} (n : ℕ) (s : S) (t : T) (cs cs' : List Order) (ms ms
     cs ≡ cs' → ms ≡ ms' → fs ≡ fs' → bc ≡ bc' → bm ≡ bm' → bf ≡ bf' → outcome n (state cs ms fs s t bc bm bf) ≡ outcome n (state cs' ms' fs' s t bc' bm' bf')
 same_end n s t cs cs' ms ms' fs fs' bc bc' bm bm' bf bf' a b c d e f = cc
 
-pub worse_than_any : (side limit : ℕ) → 1 ≤ limit → limit ≤ 999999 → better side limit (no_price side) ≡ true
-worse_than_any side limit l m =
-    elim (cases_Bool (eqb side 1)) [ inl e ↦ rw (e, lt-ltb 0 limit (omega arith)) | inr e ↦ rw (e, lt-ltb limit 1000000 (omega arith)) ]
-
 -- ---- the Trade ----
+
+-- no block shows more fills than it has places
+counts_few : {S T : Type 0} (a : Reached) (w : State S T) → Ready a w →
+    (count_in w.blocks.customers ≤ 64) × (count_in w.blocks.makers ≤ 16) × (count_in w.blocks.firms ≤ 64)
+counts_few a w r =
+    let c = r.customers.room.free in
+    let m = r.makers.room.free in
+    let f = r.firms.room.free in
+    (omega arith, omega arith, omega arith)
 
 module _ {S T : Type 0} (M : Rule S) (F : Rule T) (side : ℕ) (i : Incoming) where
   stopped : (a : Reached) (w : State S T) →
@@ -104,17 +109,20 @@ module _ {S T : Type 0} (M : Rule S) (F : Rule T) (side : ℕ) (i : Incoming) wh
   pub none_left : (a : Reached) (w : State S T) → a.left ≡ 0 → outcome a.left w ≡ outcome_from M F side i a w
   none_left a w z = stopped a w (walk_nothing M F side i.limit i.directed (to_come a w) (prices side (to_come a w)) a.left w.makers_rule w.firms_rule z)
 
-  pub none_reached : (b p : ℕ) (a : Reached) (w : State S T) → p ≡ best_ahead side b (to_come a w) → BestFirst side (to_come a w) →
-      better side i.limit p ≡ true → outcome a.left w ≡ outcome_from M F side i a w
-  none_reached b p a w e o v =
-      stopped a w (walk_end M F side i.limit i.directed b p (to_come a w) a.left w.makers_rule w.firms_rule e (all_sorted side (to_come a w) o) v)
+  pub none_ahead : (a : Reached) (w : State S T) → None ≡ best_ahead side (to_come a w) → outcome a.left w ≡ outcome_from M F side i a w
+  none_ahead a w e = stopped a w (walk_out M F side i.limit i.directed (to_come a w) a.left w.makers_rule w.firms_rule (sym e))
+
+  pub none_reached : (p : ℕ) (a : Reached) (w : State S T) → Some p ≡ best_ahead side (to_come a w) → BestFirst side (to_come a w) →
+      true ≡ better side i.limit p → outcome a.left w ≡ outcome_from M F side i a w
+  none_reached p a w e o v =
+      stopped a w (walk_end M F side i.limit i.directed p (to_come a w) a.left w.makers_rule w.firms_rule (sym e) (all_sorted side (to_come a w) o) (sym v))
 
   -- one level on
-  pub going_on : (b p : ℕ) (a : Reached) (w : State S T) (a' : Reached) (w' : State S T) → p ≡ best_ahead side b (to_come a w) → BestFirst side (to_come a w) →
-      better side i.limit b ≡ true → better side i.limit p ≡ false → 0 < a.left → ServesLevel M F p i.directed a w a' w' →
+  pub level_on : (p : ℕ) (a : Reached) (w : State S T) (a' : Reached) (w' : State S T) → Some p ≡ best_ahead side (to_come a w) → BestFirst side (to_come a w) →
+      false ≡ better side i.limit p → 0 < a.left → ServesLevel M F p i.directed a w a' w' →
       (outcome_from M F side i a' w' ≡ outcome_from M F side i a w) × BestFirst side (to_come a' w')
       × (a.customers + a.makers + a.firms < a'.customers + a'.makers + a'.firms)
-  going_on b p a w a' w' e o v u some d =
+  level_on p a w a' w' e o u some d =
       let limit : ℕ = i.limit in
       let directed : ℕ = i.directed in
       let ts : Tables = to_come a w in
@@ -134,7 +142,7 @@ module _ {S T : Type 0} (M : Rule S) (F : Rule T) (side : ℕ) (i : Incoming) wh
       ∙ ap (λ z. swept_with M F side i x.left us z w'.firms_rule) d.makers_rule
       ∙ ap (λ z. swept_with M F side i x.left us x.makers_next z) d.firms_rule in
       let step : swept_with M F side i a.left ts w.makers_rule w.firms_rule ≡ (x then_swept y) =
-      walk_step M F side limit directed b p ts a.left w.makers_rule w.firms_rule e (all_sorted side ts o) v u some in
+      walk_step M F side limit directed p ts a.left w.makers_rule w.firms_rule (sym e) (all_sorted side ts o) (sym u) some in
       let mid : ends_in y w' ≡ ends_in (x then_swept y) w =
       same_end y.left y.makers_next y.firms_next _ _ _ _ _ _ _ _ _ _ _ _
       (orders_on x.given.customers y.given.customers w.customers w'.customers dc.records)
@@ -143,10 +151,8 @@ module _ {S T : Type 0} (M : Rule S) (F : Rule T) (side : ℕ) (i : Incoming) wh
       (block_on 64 x.given.customers y.given.customers w.blocks.customers w'.blocks.customers dc.block)
       (block_on 16 x.given.makers y.given.makers w.blocks.makers w'.blocks.makers dm.block)
       (block_on 64 x.given.firms y.given.firms w.blocks.firms w'.blocks.firms df.block) in
-      let not-b : best_ahead side b ts ≡ b → ⊥ = λ z. both_ways (better side limit p) u (subst (λ k. better side limit k ≡ true) (sym (e ∙ z)) v) in
-      let some_here = (some_best side b ts not-b).0 in
       let more : 0 < length (here order_shown a.customers p w.customers) + length (here quote_shown a.makers p w.makers) + length (here order_shown a.firms p w.firms) =
-      subst (λ k. 0 < length (front k ts.customers) + length (front k ts.makers) + length (front k ts.firms)) (sym e) some_here in
+      (some_best side p ts (sym e)).0 in
       let e1 = dc.moved in
       let e2 = dm.moved in
       let e3 = df.moved in (
@@ -155,15 +161,34 @@ module _ {S T : Type 0} (M : Rule S) (F : Rule T) (side : ℕ) (i : Incoming) wh
         omega arith,
       )
 
-pub fewer : (a a' : Reached) (x y z : ℕ) → a.customers + a.makers + a.firms < a'.customers + a'.makers + a'.firms →
-    a'.customers ≤ x → a'.makers ≤ y → a'.firms ≤ z → x + y + z - (a'.customers + a'.makers + a'.firms) < x + y + z - (a.customers + a.makers + a.firms)
-fewer a a' x y z h l m n = omega arith
+  -- a Trade that ends here has swept as it would have from the start
+  pub sweeps : (v : State S T) (a : Reached) (w : State S T) → Ready a w → outcome_from M F side i a w ≡ outcome_from M F side i (start i) v →
+      outcome a.left w ≡ outcome_from M F side i a w → Sweeps M F side i v a.left w
+  sweeps v a w r on here = let few = counts_few a w r in record { outcome = here ∙ on; customers = few.0; makers = few.1; firms = few.2 }
 
--- no block shows more fills than it has places
-pub counts_few : {S T : Type 0} (a : Reached) (w : State S T) → Ready a w →
-    (count_in w.blocks.customers ≤ 64) × (count_in w.blocks.makers ≤ 16) × (count_in w.blocks.firms ≤ 64)
-counts_few a w r =
-    let c = r.customers.room.free in
-    let m = r.makers.room.free in
-    let f = r.firms.room.free in
-    (omega arith, omega arith, omega arith)
+-- as many records as before, and fewer of them to come
+pub fewer : {S T : Type 0} (x : Swept S T) (p : ℕ) (a : Reached) (w : State S T) (a' : Reached) (w' : State S T) → LevelServed x p a w a' w' →
+    a.customers + a.makers + a.firms < a'.customers + a'.makers + a'.firms →
+    length w'.customers + length w'.makers + length w'.firms - (a'.customers + a'.makers + a'.firms)
+    < length w.customers + length w.makers + length w.firms - (a.customers + a.makers + a.firms)
+fewer x p a w a' w' d h =
+    let c = ap length d.customers.records ∙ length-map w.customers _ in
+    let m = ap length d.makers.records ∙ length-map w.makers _ in
+    let f = ap length d.firms.records ∙ length-map w.firms _ in
+    let inside_c = d.ready.customers.inside in
+    let inside_m = d.ready.makers.inside in
+    let inside_f = d.ready.firms.inside in omega arith
+
+-- a market that was lent twice is the one that was lent
+pub same_again : {S T : Type 0} (m n k : Market S T) → SameRoom m n → SameRoom n k → SameRoom m k
+same_again m n k p q =
+    record {
+      customers = q.customers ∙ p.customers;
+      makers = q.makers ∙ p.makers;
+      firms = q.firms ∙ p.firms;
+      makers_rule = q.makers_rule ∙ p.makers_rule;
+      firms_rule = q.firms_rule ∙ p.firms_rule;
+      customer_block = q.customer_block ∙ p.customer_block;
+      maker_block = q.maker_block ∙ p.maker_block;
+      firm_block = q.firm_block ∙ p.firm_block;
+    }

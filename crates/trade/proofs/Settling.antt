@@ -1,14 +1,14 @@
 -- What a Trade leaves in its blocks and tables.
-use Rattle.std.proofs.Common.{◌≡◌, ℕ, ◌+◌, ◌-◌, ◌≤◌, List, [], ◌∷◌, ◌++◌, map, length, take, drop, replicate, sym, ap, ◌∙◌, arith}
-use Rattle.std.proofs.lemmas.List.{append_assoc, append-nil, length-map, length_push, length-take-le, take-append-le, drop-append-le}
+use Rattle.std.proofs.Common.{◌≡◌, ℕ, ◌+◌, ◌-◌, ◌≤◌, List, [], ◌∷◌, ◌++◌, map, length, take, sym, ap, ◌∙◌, arith}
+use Rattle.std.proofs.lemmas.List.{append_assoc, append-nil, length_push}
 use Rattle.blocks.specs.Blocks.{block}
 use Rattle.blocks.specs.Reading.{count_in}
 use Rattle.blocks.specs.declared.Fill.{Fill}
 use Rattle.kept.specs.Standing.{Interest, with_left}
-use Rattle.model.specs.Fills.{given_to, less}
+use Rattle.model.specs.Fills.{less}
 use Rattle.serving.specs.Filling.{all_filled_in}
-use Rattle.serving.specs.Stretch.{lower_all}
-use Rattle.serving.proofs.Counting.{count_all, filled_block}
+use Rattle.blocks.proofs.Filling.{filled_block}
+use Rattle.serving.proofs.Counting.{count_all}
 use Rattle.trade.specs.Compaction.{Compacts}
 use Rattle.trade.specs.Rows.{SettlesRow}
 use Rattle.trade.proofs.Leaving.{kept_less}
@@ -32,19 +32,6 @@ block_made k fs z b e m few =
 
 pub compacts_as : {X : Type 0} (shown : X → Interest) (blank : X) (ys zs : List X) (n : ℕ) (xs : List X) → ys ≡ zs → Compacts shown blank ys n xs → Compacts shown blank zs n xs
 compacts_as shown blank ys zs n xs e c = rw e at c
-
--- a row that was cut to its first c records, and is whole again
-pub settles : {X : Type 0} (shown : X → Interest) (lower : X → ℕ → X) (blank : X) (fs : List Fill) (xs ys : List X) (c n : ℕ) → c ≤ length xs →
-    length ys ≡ length (take c xs) → Compacts shown blank (lower_all shown lower fs (take c xs)) n ys → SettlesRow shown lower blank fs c xs n (ys ++ drop c xs)
-settles shown lower blank fs xs ys c n le l p =
-    let k : length (take c xs) ≡ c = length-take-le c xs le in
-    let m : length (lower_all shown lower fs (take c xs)) ≡ c = length-map (take c xs) (λ x. lower x (given_to (shown x).holder fs)) ∙ k in
-    let few = p.few in
-    record {
-      few = omega arith;
-      stand = take-append-le n ys (drop c xs) (omega arith) ∙ p.stand;
-      rest = drop-append-le n ys (drop c xs) (omega arith) ∙ ap (λ z. z ++ drop c xs) (p.freed ∙ ap (λ z. replicate (z - n) blank) m);
-    }
 
 -- the table that is left
 pub table_left : {X : Type 0} {shown : X → Interest} {lower : X → ℕ → X} {blank : X} {fs : List Fill} {c n : ℕ} {xs ys : List X} →

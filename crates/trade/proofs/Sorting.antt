@@ -1,5 +1,5 @@
 -- One table that is best first: the stretch at its best price, and what stands behind it.
-use Rattle.std.proofs.Common.{◌≡◌, ℕ, ◌<◌, true, false, cond, eqb, ◌⊎◌, List, [], ◌∷◌, ◌++◌, length, drop, sym, refl, ap, ◌∙◌, subst, inl, inr, arith}
+use Rattle.std.proofs.Common.{◌≡◌, ℕ, ◌<◌, true, false, cond, eqb, ◌⊎◌, List, [], ◌∷◌, ◌++◌, length, drop, Option, None, Some, sym, refl, ap, ◌∙◌, subst, inl, inr, arith}
 use Rattle.std.proofs.lemmas.Bool.{cases_Bool, both_ways, or_cases, or_left, or_right, eqb-true, eqb-false, eq-eqb, ne_eqb, and_parts, not-true}
 use Rattle.kept.specs.Inserting.{leads, in_rank}
 use Rattle.kept.specs.Ranked.{better}
@@ -7,7 +7,7 @@ use Rattle.kept.specs.Standing.{Interest}
 use Rattle.model.specs.Tables.{at_price}
 use Rattle.serving.specs.Stretch.{front}
 use Rattle.trade.specs.Prices.{ahead, by_price}
-use Rattle.trade.proofs.Ladder.{better_self, better_else, self_not, not_better_trans, priced}
+use Rattle.trade.proofs.Ladder.{better_self, better_else, not_better_trans, priced}
 
 -- ---- best first ----
 
@@ -123,21 +123,25 @@ at_past p q (r ∷ rs) n =
       | inr w ↦ rw w refl
     ]
 
-pub behind_ahead : (side b : ℕ) (t : List Interest) → Sorted side t → Behind side (ahead b t) t
-behind_ahead side b [] s q e = absurd (both_ways false refl e)
-behind_ahead side b (r ∷ rs) s q e =
+-- no price that there is is better
+abbrev pub NoneBetter : (side price : ℕ) → Option ℕ → Type 0
+NoneBetter side p None = Unit {0}
+NoneBetter side p (Some q) = better side q p ≡ false
+
+-- where no first price is better, none is
+pub behind_ahead : (side p : ℕ) (t : List Interest) → Sorted side t → NoneBetter side p (ahead t) → Behind side p t
+behind_ahead side p [] s n q e = absurd (both_ways false refl e)
+behind_ahead side p (r ∷ rs) s n q e =
     elim (or_cases (eqb q r.price) (priced q rs) e) [
-      | inl w ↦ subst (λ z. better side z r.price ≡ false) (sym (eqb-true q r.price w)) (self_not side r.price)
-      | inr w ↦ s.0 q w
+      | inl w ↦ subst (λ z. better side z p ≡ false) (sym (eqb-true q r.price w)) n
+      | inr w ↦ not_better_trans side q r.price p (s.0 q w) n
     ]
 
-pub behind_more : (side a p : ℕ) (t : List Interest) → Behind side a t → better side a p ≡ false → Behind side p t
-behind_more side a p t b n q e = not_better_trans side q a p (b q e) n
-
-pub front_some : (p : ℕ) (t : List Interest) (b : ℕ) → ahead b t ≡ p → (p ≡ b → ⊥) → (0 < length (front p t)) × (priced p t ≡ true)
-front_some p [] b e n = absurd (n (sym e))
-front_some p (r ∷ rs) b e n =
-    let w = eq-eqb p r.price (sym e) in (rw w (omega arith), or_left (eqb p r.price) (priced p rs) w)
+pub front_some : (p : ℕ) (t : List Interest) → ahead t ≡ Some p → (0 < length (front p t)) × (priced p t ≡ true)
+front_some p [] e = cc
+front_some p (r ∷ rs) e =
+    let is : p ≡ r.price = cc in
+    let w = eq-eqb p r.price is in (rw w (omega arith), or_left (eqb p r.price) (priced p rs) w)
 
 -- ---- tables one behind another ----
 

@@ -1,5 +1,5 @@
 -- A Trade's way over tables that are best first: the best price ahead, its stretches, and then what stands behind them.
-use Rattle.std.proofs.Common.{◌≡◌, ℕ, ◌+◌, ◌<◌, true, false, cond, eqb, ltb, ◌⊎◌, List, [], ◌∷◌, ◌++◌, length, sym, refl, ap, ◌∙◌, subst, inl, inr, arith}
+use Rattle.std.proofs.Common.{◌≡◌, ℕ, ◌+◌, ◌<◌, true, false, cond, eqb, ltb, ◌⊎◌, List, [], ◌∷◌, ◌++◌, length, Option, None, Some, sym, refl, ap, ◌∙◌, subst, inl, inr, arith}
 use Rattle.std.proofs.lemmas.Bool.{cases_Bool, both_ways, or_cases, or_left, or_right, eqb-true, eq-eqb, ne_eqb, and_from, and_left, and_right, not_from_true, not_from_false, lt-ltb, le-ltb}
 use Rattle.terms.specs.Numbers.{listed}
 use Rattle.kept.specs.Ranked.{better, no_worse}
@@ -12,7 +12,7 @@ use Rattle.serving.specs.Stretch.{front}
 use Rattle.trade.specs.Level.{fronts}
 use Rattle.trade.specs.Prices.{BestFirst, ahead, best, best_ahead}
 use Rattle.trade.proofs.Ladder.{better_self, better_not, self_not, not_better_trans, falling_ladder, falling_same, priced, ladder_to, to_ladder}
-use Rattle.trade.proofs.Sorting.{Behind, Sorted, sorted_rank, past, rank_past, past_some, past_or, past_worse, at_front, at_past, behind_ahead, behind_more, front_some, priced_front, priced_behind, priced_cases}
+use Rattle.trade.proofs.Sorting.{Behind, Sorted, sorted_rank, past, rank_past, past_some, past_or, past_worse, at_front, at_past, NoneBetter, behind_ahead, front_some, priced_front, priced_behind, priced_cases}
 
 -- ---- three tables ----
 
@@ -34,50 +34,61 @@ first_past side p ts b =
       firms = rank_past side p ts.firms b.firms;
     }
 
-best_left : (side p q : ℕ) → better side p (best side p q) ≡ false
+-- ---- the best price ahead ----
+
+-- the better of two prices is one of them, and neither is better
+best_one : (side p : ℕ) (x y : Option ℕ) → best side x y ≡ Some p → (x ≡ Some p) ⊎ (y ≡ Some p)
+best_one side p None y e = inr e
+best_one side p (Some m) None e = inl e
+best_one side p (Some m) (Some q) e = elim (cases_Bool (better side q m)) [ inl h ↦ inr (rw h at e) | inr h ↦ inl (rw h at e) ]
+
+best_left : (side p q : ℕ) → better side p (cond (better side q p) q p) ≡ false
 best_left side p q = elim (cases_Bool (better side q p)) [ inl e ↦ rw e (better_not side q p e) | inr e ↦ rw e (self_not side p) ]
 
-best_right : (side p q : ℕ) → better side q (best side p q) ≡ false
+best_right : (side p q : ℕ) → better side q (cond (better side q p) q p) ≡ false
 best_right side p q = elim (cases_Bool (better side q p)) [ inl e ↦ rw e (self_not side q) | inr e ↦ rw e e ]
 
-best_is : (side p q : ℕ) → (p ≡ best side p q) ⊎ (q ≡ best side p q)
-best_is side p q = elim (cases_Bool (better side q p)) [ inl e ↦ inr (rw e) | inr e ↦ inl (rw e) ]
+none_of_two : (side p : ℕ) (x y : Option ℕ) → NoneBetter side p (best side x y) → NoneBetter side p x × NoneBetter side p y
+none_of_two side p None y n = (tt, n)
+none_of_two side p (Some m) None n = (n, tt)
+none_of_two side p (Some m) (Some q) n =
+    let k : ℕ = cond (better side q m) q m in (not_better_trans side m k p (best_left side m q) n, not_better_trans side q k p (best_right side m q) n)
 
-behind_best : (side b : ℕ) (ts : Tables) → AllSorted side ts →
-    Behind side (best_ahead side b ts) ts.customers × Behind side (best_ahead side b ts) ts.makers × Behind side (best_ahead side b ts) ts.firms
-behind_best side b ts s =
-    let x : ℕ = ahead b ts.customers in
-    let y : ℕ = ahead b ts.makers in
-    let z : ℕ = ahead b ts.firms in
-    let xy : ℕ = best side x y in
-    let p : ℕ = best side xy z in (
-      behind_more side x p ts.customers (behind_ahead side b ts.customers s.0) (not_better_trans side x xy p (best_left side x y) (best_left side xy z)),
-      behind_more side y p ts.makers (behind_ahead side b ts.makers s.1) (not_better_trans side y xy p (best_right side x y) (best_left side xy z)),
-      behind_more side z p ts.firms (behind_ahead side b ts.firms s.2) (best_right side xy z),
-    )
+behind_best : (side p : ℕ) (ts : Tables) → best_ahead side ts ≡ Some p → AllSorted side ts →
+    Behind side p ts.customers × Behind side p ts.makers × Behind side p ts.firms
+behind_best side p ts e s =
+    let first : Option ℕ = best side (ahead ts.customers) (ahead ts.makers) in
+    let n = none_of_two side p first (ahead ts.firms) (subst (NoneBetter side p) (sym e) (self_not side p)) in
+    let m = none_of_two side p (ahead ts.customers) (ahead ts.makers) n.0 in
+    (behind_ahead side p ts.customers s.0 m.0, behind_ahead side p ts.makers s.1 m.1, behind_ahead side p ts.firms s.2 n.1)
 
-pub some_best : (side b : ℕ) (ts : Tables) → (best_ahead side b ts ≡ b → ⊥) →
-    let p : ℕ = best_ahead side b ts in
+pub some_best : (side p : ℕ) (ts : Tables) → best_ahead side ts ≡ Some p →
     (0 < length (front p ts.customers) + length (front p ts.makers) + length (front p ts.firms))
     × (priced p (ts.customers ++ (ts.makers ++ ts.firms)) ≡ true)
-some_best side b ts n =
-    let x : ℕ = ahead b ts.customers in
-    let y : ℕ = ahead b ts.makers in
-    let z : ℕ = ahead b ts.firms in
-    let xy : ℕ = best side x y in
-    let p : ℕ = best side xy z in
-    elim (best_is side xy z) [
-      | inl e ↦
-          elim (best_is side x y) [
-            | inl d ↦ let w = front_some p ts.customers b (d ∙ e) n in (omega (arith, w.0), priced_front p ts.customers (ts.makers ++ ts.firms) w.1)
-            | inr d ↦
-                let w = front_some p ts.makers b (d ∙ e) n in
+some_best side p ts e =
+    elim (best_one side p (best side (ahead ts.customers) (ahead ts.makers)) (ahead ts.firms) e) [
+      | inl d ↦
+          elim (best_one side p (ahead ts.customers) (ahead ts.makers) d) [
+            | inl h ↦ let w = front_some p ts.customers h in (omega (arith, w.0), priced_front p ts.customers (ts.makers ++ ts.firms) w.1)
+            | inr h ↦
+                let w = front_some p ts.makers h in
                 (omega (arith, w.0), priced_behind p ts.customers (ts.makers ++ ts.firms) (priced_front p ts.makers ts.firms w.1))
           ]
-      | inr e ↦
-          let w = front_some p ts.firms b e n in
+      | inr h ↦
+          let w = front_some p ts.firms h in
           (omega (arith, w.0), priced_behind p ts.customers (ts.makers ++ ts.firms) (priced_behind p ts.makers ts.firms w.1))
     ]
+
+-- where no table has a first record, there is none
+nothing_ahead : (side : ℕ) (cs ms fs : List Interest) → best side (best side (ahead cs) (ahead ms)) (ahead fs) ≡ None → cs ++ (ms ++ fs) ≡ []
+nothing_ahead side [] [] [] e = refl
+nothing_ahead side [] [] (f ∷ fs) e = cc
+nothing_ahead side [] (m ∷ ms) [] e = cc
+nothing_ahead side [] (m ∷ ms) (f ∷ fs) e = cc
+nothing_ahead side (c ∷ cs) [] [] e = cc
+nothing_ahead side (c ∷ cs) [] (f ∷ fs) e = cc
+nothing_ahead side (c ∷ cs) (m ∷ ms) [] e = cc
+nothing_ahead side (c ∷ cs) (m ∷ ms) (f ∷ fs) e = cc
 
 abbrev all : Tables → List Interest
 all ts = ts.customers ++ (ts.makers ++ ts.firms)
@@ -100,12 +111,10 @@ in_firms : (x : ℕ) (ts : Tables) → priced x ts.firms ≡ true → priced x (
 in_firms x ts e = priced_behind x ts.customers (ts.makers ++ ts.firms) (priced_behind x ts.makers ts.firms e)
 
 -- the prices: the best first price, and then those behind its stretches
-prices_step : (side b : ℕ) (ts : Tables) → AllSorted side ts → (best_ahead side b ts ≡ b → ⊥) →
-    prices side ts ≡ best_ahead side b ts ∷ prices side (pasts (best_ahead side b ts) ts)
-prices_step side b ts s n =
-    let p : ℕ = best_ahead side b ts in
+prices_step : (side p : ℕ) (ts : Tables) → AllSorted side ts → best_ahead side ts ≡ Some p → prices side ts ≡ p ∷ prices side (pasts p ts)
+prices_step side p ts s a =
     let us : Tables = pasts p ts in
-    let h = behind_best side b ts s in
+    let h = behind_best side p ts a s in
     let worse : (q : ℕ) → priced q (all us) ≡ true → better side p q ≡ true =
     λ q. all_cases q us (better side p q ≡ true) (past_worse side p ts.customers s.0 h.0 q) (past_worse side p ts.makers s.1 h.1 q) (past_worse side p ts.firms s.2 h.2 q) in
     falling_same side (ladder side (all ts)) (p ∷ ladder side (all us)) (falling_ladder side (all ts))
@@ -124,7 +133,7 @@ prices_step side b ts s n =
     (λ z e.
     to_ladder side (all ts) z (
     elim (or_cases (eqb z p) (listed z (ladder side (all us))) e) [
-      | inl v ↦ subst (λ m. priced m (all ts) ≡ true) (sym (eqb-true z p v)) (some_best side b ts n).1
+      | inl v ↦ subst (λ m. priced m (all ts) ≡ true) (sym (eqb-true z p v)) (some_best side p ts a).1
       | inr v ↦
           all_cases z us (priced z (all ts) ≡ true)
           (λ d. in_customers z ts (past_some p ts.customers z d))
@@ -134,11 +143,10 @@ prices_step side b ts s n =
     ]))
 
 -- the best price does not come again
-not_again : (side b : ℕ) (ts : Tables) → AllSorted side ts → (q : ℕ) → listed q (prices side (pasts (best_ahead side b ts) ts)) ≡ true → eqb q (best_ahead side b ts) ≡ false
-not_again side b ts s q e =
-    let p : ℕ = best_ahead side b ts in
+not_again : (side p : ℕ) (ts : Tables) → AllSorted side ts → best_ahead side ts ≡ Some p → (q : ℕ) → listed q (prices side (pasts p ts)) ≡ true → eqb q p ≡ false
+not_again side p ts s a q e =
     let us : Tables = pasts p ts in
-    let h = behind_best side b ts s in
+    let h = behind_best side p ts a s in
     let w : better side p q ≡ true =
     all_cases q us (better side p q ≡ true) (past_worse side p ts.customers s.0 h.0 q) (past_worse side p ts.makers s.1 h.1 q) (past_worse side p ts.firms s.2 h.2 q)
     (ladder_to side (all us) q e) in
@@ -175,38 +183,37 @@ module _ {S F : Type 0} (M : Rule S) (Q : Rule F) (side limit directed : ℕ) wh
       let r : reached side limit p n ≡ false = and_right (no_worse side p limit) (ltb 0 n) (le-ltb 0 n (omega arith)) in
       rw r
 
-  -- no price is reached where the best first one is not
-  pub walk_end : (b p : ℕ) (ts : Tables) (n : ℕ) (s : S) (f : F) → p ≡ best_ahead side b ts → AllSorted side ts → better side limit p ≡ true →
+  -- no price is reached where there is none
+  pub walk_out : (ts : Tables) (n : ℕ) (s : S) (f : F) → best_ahead side ts ≡ None → sweep M Q side limit directed ts (prices side ts) n s f ≡ at_end n s f
+  walk_out ts n s f e = ap (λ l. sweep M Q side limit directed ts (ladder side l) n s f) (nothing_ahead side ts.customers ts.makers ts.firms e)
+
+  -- nor where the best first one is not
+  pub walk_end : (p : ℕ) (ts : Tables) (n : ℕ) (s : S) (f : F) → best_ahead side ts ≡ Some p → AllSorted side ts → better side limit p ≡ true →
       sweep M Q side limit directed ts (prices side ts) n s f ≡ at_end n s f
-  walk_end b p ts n s f e o w =
-      let h = behind_best side b ts o in
-      let w' : better side limit (best_ahead side b ts) ≡ true = subst (λ z. better side limit z ≡ true) e w in
-      let on : (q : ℕ) → better side q (best_ahead side b ts) ≡ false → better side limit q ≡ true = λ q d.
+  walk_end p ts n s f a o w =
+      let h = behind_best side p ts a o in
+      let on : (q : ℕ) → better side q p ≡ false → better side limit q ≡ true = λ q d.
       elim (cases_Bool (better side limit q)) [
         | inl z ↦ z
-        | inr z ↦ absurd (both_ways (better side limit (best_ahead side b ts)) (not_better_trans side limit q (best_ahead side b ts) z d) w')
+        | inr z ↦ absurd (both_ways (better side limit p) (not_better_trans side limit q p z d) w)
       ] in
       sweep_none ts (prices side ts) n s f (λ q l.
       all_cases q ts (better side limit q ≡ true) (λ d. on q (h.0 q d)) (λ d. on q (h.1 q d)) (λ d. on q (h.2 q d)) (ladder_to side (all ts) q l))
 
   -- one price, and then the tables behind it
-  pub walk_step : (b p : ℕ) (ts : Tables) (n : ℕ) (s : S) (f : F) → p ≡ best_ahead side b ts → AllSorted side ts →
-      better side limit b ≡ true → better side limit p ≡ false → 0 < n →
+  pub walk_step : (p : ℕ) (ts : Tables) (n : ℕ) (s : S) (f : F) → best_ahead side ts ≡ Some p → AllSorted side ts → better side limit p ≡ false → 0 < n →
       let x : Swept S F = level M Q directed (fronts p ts) n s f in
       sweep M Q side limit directed ts (prices side ts) n s f
       ≡ (x then_swept sweep M Q side limit directed (pasts p ts) (prices side (pasts p ts)) x.left x.makers_next x.firms_next)
-  walk_step b p ts n s f e o w v some =
+  walk_step p ts n s f a o v some =
       let us : Tables = pasts p ts in
-      let not-b : best_ahead side b ts ≡ b → ⊥ = λ z. both_ways (better side limit p) v (subst (λ m. better side limit m ≡ true) (sym (e ∙ z)) w) in
-      let h = behind_best side b ts o in
-      let ps : prices side ts ≡ p ∷ prices side us =
-      prices_step side b ts o not-b ∙ ap (λ z. z ∷ prices side (pasts z ts)) (sym e) in
+      let h = behind_best side p ts a o in
+      let ps : prices side ts ≡ p ∷ prices side us = prices_step side p ts o a in
       let r : reached side limit p n ≡ true = and_from (no_worse side p limit) (ltb 0 n) (not_from_false (better side limit p) v) (lt-ltb 0 n some) in
       let here : at_level p ts ≡ fronts p ts =
-      subst (λ z. at_level z ts ≡ fronts z ts) (sym e)
-      (three_same _ _ _ _ _ _ (at_front side (best_ahead side b ts) ts.customers o.0 h.0) (at_front side (best_ahead side b ts) ts.makers o.1 h.1) (at_front side (best_ahead side b ts) ts.firms o.2 h.2)) in
+      three_same _ _ _ _ _ _ (at_front side p ts.customers o.0 h.0) (at_front side p ts.makers o.1 h.1) (at_front side p ts.firms o.2 h.2) in
       let other : (q : ℕ) → listed q (prices side us) ≡ true → at_level q ts ≡ at_level q us = λ q l.
-      let n' : eqb q p ≡ false = ap (eqb q) e ∙ not_again side b ts o q (ap (λ z. listed q (prices side (pasts z ts))) (sym e) ∙ l) in
+      let n' : eqb q p ≡ false = not_again side p ts o a q l in
       three_same _ _ _ _ _ _ (at_past p q ts.customers n') (at_past p q ts.makers n') (at_past p q ts.firms n') in
       let x : Swept S F = level M Q directed (fronts p ts) n s f in
       let go : Tables → Swept S F = λ t.

@@ -15,8 +15,8 @@ use Rattle.trade.specs.Compaction.{has_left, Compacts}
 use Rattle.trade.specs.State.{State, all_shown}
 use Rattle.trade.specs.Trades.{TradableRow, swept}
 use Rattle.trade.specs.declared.incoming.Incoming.{Incoming}
+use Rattle.trade.specs.declared.reached.Reached.{Reached}
 use Rattle.trade.specs.declared.tables.Counts.{Counts}
-use Rattle.trade.specs.declared.tables.Ended.{Ended}
 
 -- each row of a state can be traded against
 pub record TradableRows {S T : Type 0} (side : ℕ) (w : State S T) : Type 0 where
@@ -48,29 +48,29 @@ cut_to c w =
     }
 
 -- a Trade over all records of three rows, as x says
-pub record RowsTraded {S T : Type 0} (x : Swept S T) (w : State S T) (e : Ended) (w' : State S T) : Type 0 where
+pub record RowsTraded {S T : Type 0} (x : Swept S T) (w : State S T) (e : Reached) (w' : State S T) : Type 0 where
   pub left : e.left ≡ x.left
   pub makers_rule : w'.makers_rule ≡ x.makers_next
   pub firms_rule : w'.firms_rule ≡ x.firms_next
   pub blocks : w'.blocks ≡ blocks_of x.given
-  pub customers : Compacts order_shown no_order (lower_all order_shown order_lower x.given.customers w.customers) e.counts.customers w'.customers
-  pub makers : Compacts quote_shown no_quote (lower_all quote_shown quote_lower x.given.makers w.makers) e.counts.makers w'.makers
-  pub firms : Compacts order_shown no_order (lower_all order_shown order_lower x.given.firms w.firms) e.counts.firms w'.firms
+  pub customers : Compacts order_shown no_order (lower_all order_shown order_lower x.given.customers w.customers) e.customers w'.customers
+  pub makers : Compacts quote_shown no_quote (lower_all quote_shown quote_lower x.given.makers w.makers) e.makers w'.makers
+  pub firms : Compacts order_shown no_order (lower_all order_shown order_lower x.given.firms w.firms) e.firms w'.firms
 
-abbrev pub TradesRows : {S T : Type 0} → Rule S → Rule T → (side : ℕ) → Incoming → State S T → Ended → State S T → Type 0
+abbrev pub TradesRows : {S T : Type 0} → Rule S → Rule T → (side : ℕ) → Incoming → State S T → Reached → State S T → Type 0
 TradesRows M F side i w e w' = RowsTraded (swept_rows M F side i w) w e w'
 
 -- a Trade over the first records of three rows, as x says
-pub record PlacesTraded {S T : Type 0} (x : Swept S T) (c : Counts) (w : State S T) (e : Ended) (w' : State S T) : Type 0 where
+pub record PlacesTraded {S T : Type 0} (x : Swept S T) (c : Counts) (w : State S T) (e : Reached) (w' : State S T) : Type 0 where
   pub left : e.left ≡ x.left
   pub makers_rule : w'.makers_rule ≡ x.makers_next
   pub firms_rule : w'.firms_rule ≡ x.firms_next
   pub blocks : w'.blocks ≡ blocks_of x.given
-  pub customers : SettlesRow order_shown order_lower no_order x.given.customers c.customers w.customers e.counts.customers w'.customers
-  pub makers : SettlesRow quote_shown quote_lower no_quote x.given.makers c.makers w.makers e.counts.makers w'.makers
-  pub firms : SettlesRow order_shown order_lower no_order x.given.firms c.firms w.firms e.counts.firms w'.firms
+  pub customers : SettlesRow order_shown order_lower no_order x.given.customers c.customers w.customers e.customers w'.customers
+  pub makers : SettlesRow quote_shown quote_lower no_quote x.given.makers c.makers w.makers e.makers w'.makers
+  pub firms : SettlesRow order_shown order_lower no_order x.given.firms c.firms w.firms e.firms w'.firms
 
-abbrev pub TradesPlaces : {S T : Type 0} → Rule S → Rule T → (side : ℕ) → Incoming → Counts → State S T → Ended → State S T → Type 0
+abbrev pub TradesPlaces : {S T : Type 0} → Rule S → Rule T → (side : ℕ) → Incoming → Counts → State S T → Reached → State S T → Type 0
 TradesPlaces M F side i c w e w' = PlacesTraded (swept_rows M F side i (cut_to c w)) c w e w'
 
 -- three lists, held together

@@ -26,12 +26,6 @@ swept M F side i ts s t = sweep M F side i.limit i.directed ts (prices side ts) 
 
 -- ---- what it needs ----
 
--- a limit and a size that an incoming order may have
-pub record InRange (i : Incoming) : Type 0 where
-  pub least : 1 ≤ i.limit
-  pub most : i.limit ≤ 999999
-  pub size : i.size ≤ 999999
-
 -- a row of records that can be traded against: not too many, no holder twice, sizes in range, the best price first
 pub record TradableRow {X : Type 0} (shown : X → Interest) (side most : ℕ) (xs : List X) : Type 0 where
   pub few : length xs ≤ most

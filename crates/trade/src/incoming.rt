@@ -1,5 +1,7 @@
 // What arrives in a Trade.
+ghost use Rattle.std.specs.Prelude.{◌≤◌};
 
+// An incoming order, of a size that it may have. No contract asks anything of its limit.
 #[derive(Clone, Copy)]
 pub struct Incoming {
     // the worst price that the order takes
@@ -8,4 +10,5 @@ pub struct Incoming {
     pub size: u32,
     // the party that it is directed to, 0 for none
     pub directed: u32,
+    ghost range: { size ≤ 999999 },
 }

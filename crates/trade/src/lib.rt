@@ -4,6 +4,7 @@
 mod compaction;
 mod incoming;
 mod level;
+mod market;
 mod prices;
 mod reached;
 mod sweep;

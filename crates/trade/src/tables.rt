@@ -1,18 +1,21 @@
 // A Trade over three rows of records: first all levels, then one compaction of each row.
 ghost use Rattle.std.specs.Prelude.{◌≤◌, length};
+ghost use Rattle.terms.specs.Sides.{side_number};
 ghost use Rattle.model.specs.Trading.{rule as meaning};
 ghost use Rattle.kept.specs.Orders.{order_shown};
 ghost use Rattle.kept.specs.Quotes.{quote_shown};
 ghost use Rattle.trade.specs.Rows.{TradableRows, TradesPlaces, TradesRows, cut_to, held};
-ghost use Rattle.trade.specs.State.{blocks_from, state_of};
-ghost use Rattle.trade.specs.Trades.{FullLength, InRange, Tradable, Trades};
+ghost use Rattle.trade.specs.State.{SameRoom, blocks_from, state, state_of};
+ghost use Rattle.trade.specs.Trades.{FullLength, Tradable, Trades};
 
 use crate::compaction::compact;
 use crate::incoming::Incoming;
-use crate::sweep::trade_levels;
+use crate::market::Market;
+use crate::reached::Reached;
 use blocks::blank;
 use kept::{KeptList, Order, Quote};
 use sharing::SharingRule;
+use terms::Side;
 
 // How many records stand in each row.
 #[derive(Clone, Copy)]
@@ -22,16 +25,31 @@ struct Counts {
     firms: usize,
 }
 
-// How a Trade ended: the contracts that are left, and how many records then stand.
-#[derive(Clone, Copy)]
-struct Ended {
-    left: u32,
-    counts: Counts,
+impl<M: SharingRule, F: SharingRule> Market<'_, M, F> {
+    // A Trade over whole rows: fills in the blocks, records lowered, those without contracts gone, and their places blank. Returns where
+    // the records that stand end in each row.
+    fn trade(&mut self, side: Side, incoming: Incoming) -> Reached
+        requires rows { TradableRows (side_number side) (state_of self.old) }
+        requires blocks { FullLength (state_of self.old).blocks }
+        ensures trades { TradesRows (meaning M.SharingRule.shares M.SharingRule.next) (meaning F.SharingRule.shares F.SharingRule.next) (side_number side) incoming (state_of self.old) result (state_of self.new) }
+        ensures same { SameRoom self.old self.new }
+    {
+        blank(self.customer_block);
+        blank(self.maker_block);
+        blank(self.firm_block);
+        let left = self.trade_levels(side, incoming);
+        Reached {
+            customers: compact(self.customers),
+            makers: compact(self.makers),
+            firms: compact(self.firms),
+            left,
+        }
+    }
 }
 
-// A Trade over whole rows: fills in the blocks, records lowered, those without contracts gone, and their places blank.
-fn trade_tables<M: SharingRule, F: SharingRule>(
-    side: u32,
+// The same over rows, rules and blocks that are lent one by one: of rows cut in a struct's literal only the length would be known later.
+fn trade_rows<M: SharingRule, F: SharingRule>(
+    side: Side,
     incoming: Incoming,
     customers: &mut [Order],
     makers: &mut [Quote],
@@ -41,45 +59,29 @@ fn trade_tables<M: SharingRule, F: SharingRule>(
     customer_block: &mut [u32],
     maker_block: &mut [u32],
     firm_block: &mut [u32],
-) -> Ended
-    requires range { InRange incoming }
-    requires rows { TradableRows side (state_of customers makers firms makers_rule firms_rule customer_block maker_block firm_block) }
+) -> Reached
+    requires rows { TradableRows (side_number side) (state customers.old makers.old firms.old makers_rule.old firms_rule.old customer_block.old maker_block.old firm_block.old) }
     requires blocks { FullLength (blocks_from customer_block.old maker_block.old firm_block.old) }
-    ensures { TradesRows (meaning M.SharingRule.shares M.SharingRule.next) (meaning F.SharingRule.shares F.SharingRule.next) side incoming
-        (state_of customers.entry makers.entry firms.entry makers_rule.entry firms_rule.entry customer_block.entry maker_block.entry firm_block.entry)
-        result (state_of customers.exit makers.exit firms.exit makers_rule.exit firms_rule.exit customer_block.exit maker_block.exit firm_block.exit) }
+    ensures { TradesRows (meaning M.SharingRule.shares M.SharingRule.next) (meaning F.SharingRule.shares F.SharingRule.next) (side_number side) incoming
+        (state customers.old makers.old firms.old makers_rule.old firms_rule.old customer_block.old maker_block.old firm_block.old)
+        result (state customers.new makers.new firms.new makers_rule.new firms_rule.new customer_block.new maker_block.new firm_block.new) }
 {
-    blank(customer_block);
-    blank(maker_block);
-    blank(firm_block);
-    let left = trade_levels(
-        side,
-        incoming,
-        customers,
-        makers,
-        firms,
-        makers_rule,
-        firms_rule,
-        customer_block,
-        maker_block,
-        firm_block,
-    );
-    let c = compact(customers);
-    let m = compact(makers);
-    let f = compact(firms);
-    Ended {
-        left,
-        counts: Counts {
-            customers: c,
-            makers: m,
-            firms: f,
-        },
-    }
+    let mut market = Market {
+        customers: &mut *customers,
+        makers: &mut *makers,
+        firms: &mut *firms,
+        makers_rule: &mut *makers_rule,
+        firms_rule: &mut *firms_rule,
+        customer_block: &mut *customer_block,
+        maker_block: &mut *maker_block,
+        firm_block: &mut *firm_block,
+    };
+    market.trade(side, incoming)
 }
 
 // The same over the first records of each row.
 fn trade_places<M: SharingRule, F: SharingRule>(
-    side: u32,
+    side: Side,
     incoming: Incoming,
     counts: Counts,
     customers: &mut [Order],
@@ -90,16 +92,15 @@ fn trade_places<M: SharingRule, F: SharingRule>(
     customer_block: &mut [u32],
     maker_block: &mut [u32],
     firm_block: &mut [u32],
-) -> Ended
-    requires range { InRange incoming }
+) -> Reached
     requires inside { (counts.customers ≤ length customers.old) × ((counts.makers ≤ length makers.old) × (counts.firms ≤ length firms.old)) }
-    requires rows { TradableRows side (cut_to counts (state_of customers makers firms makers_rule firms_rule customer_block maker_block firm_block)) }
+    requires rows { TradableRows (side_number side) (cut_to counts (state customers.old makers.old firms.old makers_rule.old firms_rule.old customer_block.old maker_block.old firm_block.old)) }
     requires blocks { FullLength (blocks_from customer_block.old maker_block.old firm_block.old) }
-    ensures { TradesPlaces (meaning M.SharingRule.shares M.SharingRule.next) (meaning F.SharingRule.shares F.SharingRule.next) side incoming counts
-        (state_of customers.entry makers.entry firms.entry makers_rule.entry firms_rule.entry customer_block.entry maker_block.entry firm_block.entry)
-        result (state_of customers.exit makers.exit firms.exit makers_rule.exit firms_rule.exit customer_block.exit maker_block.exit firm_block.exit) }
+    ensures { TradesPlaces (meaning M.SharingRule.shares M.SharingRule.next) (meaning F.SharingRule.shares F.SharingRule.next) (side_number side) incoming counts
+        (state customers.old makers.old firms.old makers_rule.old firms_rule.old customer_block.old maker_block.old firm_block.old)
+        result (state customers.new makers.new firms.new makers_rule.new firms_rule.new customer_block.new maker_block.new firm_block.new) }
 {
-    trade_tables(
+    trade_rows(
         side,
         incoming,
         &mut customers[..counts.customers],
@@ -115,7 +116,7 @@ fn trade_places<M: SharingRule, F: SharingRule>(
 
 // A Trade over three lists, which are lent one by one. Returns the contracts that are left.
 pub(crate) fn trade_lists<M: SharingRule, F: SharingRule>(
-    side: u32,
+    side: Side,
     incoming: Incoming,
     customers: &mut KeptList<'_, Order>,
     makers: &mut KeptList<'_, Quote>,
@@ -126,12 +127,11 @@ pub(crate) fn trade_lists<M: SharingRule, F: SharingRule>(
     maker_block: &mut [u32],
     firm_block: &mut [u32],
 ) -> u32
-    requires range { InRange incoming }
-    requires customers { Tradable order_shown side 64 customers.old }
-    requires makers { Tradable quote_shown side 16 makers.old }
-    requires firms { Tradable order_shown side 64 firms.old }
+    requires customers { Tradable order_shown (side_number side) 64 customers.old }
+    requires makers { Tradable quote_shown (side_number side) 16 makers.old }
+    requires firms { Tradable order_shown (side_number side) 64 firms.old }
     requires blocks { FullLength (blocks_from customer_block.old maker_block.old firm_block.old) }
-    ensures { Trades (meaning M.SharingRule.shares M.SharingRule.next) (meaning F.SharingRule.shares F.SharingRule.next) side incoming
+    ensures { Trades (meaning M.SharingRule.shares M.SharingRule.next) (meaning F.SharingRule.shares F.SharingRule.next) (side_number side) incoming
         (held customers.old makers.old firms.old) makers_rule.old firms_rule.old
         result (held customers.new makers.new firms.new) makers_rule.new firms_rule.new
         (blocks_from customer_block.new maker_block.new firm_block.new) }
@@ -154,8 +154,8 @@ pub(crate) fn trade_lists<M: SharingRule, F: SharingRule>(
         maker_block,
         firm_block,
     );
-    customers.count = ended.counts.customers;
-    makers.count = ended.counts.makers;
-    firms.count = ended.counts.firms;
+    customers.count = ended.customers;
+    makers.count = ended.makers;
+    firms.count = ended.firms;
     ended.left
 }

@@ -1,4 +1,4 @@
-use Rattle.std.proofs.Common.{◌≡◌, ℕ, ◌<◌, ◌≤◌, List, map, length, get_or, ap, ◌∙◌, arith}
+use Rattle.std.proofs.Common.{◌≡◌, ℕ, ◌<◌, ◌≤◌, List, map, length, get_or, ap, ◌∙◌, subst, arith}
 use Rattle.sharing.specs.Rule.{EachWithin}
 use Rattle.kept.specs.Standing.{Interest}
 use Rattle.model.specs.Tables.{sizes_of}
@@ -10,8 +10,9 @@ may shown xs ss k x w h e = let a = within_at shown xs ss w k x h in let b : (sh
 
 pub lowered-requires : goal.lowered-requires
 lowered-requires g c =
-    may g.R.Standing.shown c.args.records.now c.args.shares.now c.loop-i.i c.index-records-i.result c.requires.inside (omega arith)
-    (c.index-records-i.is ∙ c.loop-i.invariant.1 c.loop-i.i c.index-records-i.result (omega arith))
+    let allowed = may g.R.Standing.shown c.args.records.now c.args.shares.now c.loop-i.i c.index-records-i.result c.requires.inside (omega arith)
+    (c.index-records-i.is ∙ c.loop-i.invariant.1 c.loop-i.i c.index-records-i.result (omega arith)) in
+    subst (λ x. get_or c.args.shares.now c.loop-i.i 0 ≤ (g.R.Standing.shown x).left) c.index-records-i.is allowed
 
 pub returns : goal.returns
 returns g c =

@@ -1,8 +1,5 @@
-use Rattle.std.proofs.Common.{drop, ◌∙◌, inl, inr, arith}
-use Rattle.std.proofs.lemmas.List.{at_drop_all}
-use Rattle.sharing.specs.ProRata.{one_each}
+use Rattle.std.proofs.Common.{◌∙◌, inl, inr, arith}
 use Rattle.sharing.specs.BySize.{gave_one, gave_none}
-use Rattle.sharing.specs.Writing.{wrote_all}
 use Rattle.sharing.proofs.by_size.give_one_each.Goals as goal
 use Rattle.sharing.proofs.by_size.give_one_each.Goals.{then-left-gt0+then-shares-i, else-left-gt0, else-left-gt0-via-then-left-gt0+else-shares-i, else-left-gt0-via-else-left-gt0}
 
@@ -20,9 +17,3 @@ loop-i-preserved c =
             | else-left-gt0-via-else-left-gt0 v ↦ inl (omega (arith, v.if-left-gt0.false))
           ]) ∙ c.loop-i.invariant)
     ]
-
-pub returns : goal.returns
-returns c =
-    wrote_all c.loop-i.shares _ _ c.loop-i.i (omega arith)
-    (at_drop_all (λ zs. one_each c.loop-i.left zs (drop c.loop-i.i c.loop-i.shares)) c.args.sizes.now c.loop-i.i c.loop-i-test.false)
-    c.loop-i.invariant

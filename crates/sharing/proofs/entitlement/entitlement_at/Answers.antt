@@ -4,5 +4,5 @@ use Rattle.sharing.proofs.entitlement.entitlement_at.Goals as goal
 
 pub returns : goal.returns
 returns c =
-    entitlement_is c.args.specialist c.args.at (inputs_of c.args.asked) c.requires.valid c.requires.at.0 c.requires.at.1
+    entitlement_is c.args.specialist c.args.at (inputs_of c.args.asked) c.args.asked.valid c.requires.0 c.requires.1
     c.percentage-percent.result c.part.result c.min.result c.percentage-percent.ensures c.part.ensures c.min.ensures

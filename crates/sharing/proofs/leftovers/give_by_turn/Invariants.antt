@@ -1,12 +1,14 @@
-use Rattle.std.proofs.Common.{◌≡◌, drop}
+use Rattle.std.proofs.Common.{◌≡◌, false}
 use Rattle.sharing.specs.Draw.{round}
 use Rattle.sharing.specs.Made.{drawn}
 use Rattle.sharing.proofs.Handing.{hand_out}
-use Rattle.sharing.proofs.Turning.{on}
+use Rattle.sharing.proofs.Turning.{on, to_come}
 use Rattle.sharing.proofs.leftovers.give_by_turn.Given as goal
 
 -- from here it ends as from the start
-abbrev pub invariant-loop-step : goal.invariant-loop-step
-invariant-loop-step l =
-    hand_out (on (drawn l.roster)) l.holders l.sizes (drop l.step (round l.start (drawn l.roster))) l.left l.state.turn l.shares
-    ≡ hand_out (on (drawn l.roster)) l.holders l.sizes (round l.start (drawn l.roster)) l.initial.left l.start l.initial.shares
+abbrev pub invariant-loop-party : goal.invariant-loop-party
+invariant-loop-party l =
+    let roster = drawn l.roster in
+    (hand_out (on roster) l.asked.holders.now l.asked.sizes.now (to_come l.party-iterator) l.left l.state.turn l.shares
+    ≡ hand_out (on roster) l.asked.holders.now l.asked.sizes.now (round l.initial.state.turn roster) l.initial.left l.initial.state.turn l.initial.shares)
+    × (l.party-iterator.b_done ≡ false)

@@ -1,28 +1,31 @@
 use Rattle.std.proofs.Common.{sym, refl, inl, inr}
+use Rattle.terms.proofs.Rows.{found_at, found_nowhere}
 use Rattle.sharing.specs.Counts.{distinct_single}
 use Rattle.sharing.proofs.Handing.{unspent_there, unspent_gone, gives_there}
 use Rattle.sharing.proofs.leftovers.give_one.Goals as goal
-use Rattle.sharing.proofs.leftovers.give_one.Goals.{else-at-holders-via-then-at-holders+else-shares-at, else-at-holders-via-else-at-holders}
 
-pub returns-then-shares-at : goal.returns-then-shares-at
-returns-then-shares-at c =
-    let o = distinct_single c.args.holders.now c.requires.once in
-    record {
-      gave = sym (unspent_there c.args.party c.place-at.result c.args.holders.now c.args.sizes.now c.args.shares.now c.requires.paired.0 c.requires.paired.1 o
-          c.place-at.ensures.place c.if-at-holders.true c.if-shares-at.true);
-      shares = gives_there c.args.party c.place-at.result c.args.holders.now c.args.sizes.now c.args.shares.now c.requires.paired.0 c.requires.paired.1 o
-          c.place-at.ensures.place c.if-at-holders.true;
-    }
+pub returns-in-Some-clause-gave : goal.returns-in-Some-clause-gave
+returns-in-Some-clause-gave c =
+    let v = c.args.asked.valid in
+    let found = found_at c.args.asked.holders.now c.args.party c.in-Some.at c.in-Some.ensures.found in
+    sym (unspent_there c.args.party c.in-Some.at c.args.asked.holders.now c.args.asked.sizes.now c.args.shares.now v.paired c.requires (distinct_single c.args.asked.holders.now v.once)
+    found.0 found.1 c.if-shares-at.true)
 
-pub returns : goal.returns
-returns c =
-    let o = distinct_single c.args.holders.now c.requires.once in
-    record {
-      gave = sym (unspent_gone c.args.party c.place-at.result c.args.holders.now c.args.sizes.now c.args.shares.now c.requires.paired.0 c.requires.paired.1 o
-          c.place-at.ensures.place
-          (elim c.else-at-holders.branch [
-            | else-at-holders-via-then-at-holders+else-shares-at w ↦ inr w.if-shares-at.false
-            | else-at-holders-via-else-at-holders w ↦ inl w.if-at-holders.false
-          ]));
-      shares = refl;
-    }
+pub returns-in-Some-clause-shares : goal.returns-in-Some-clause-shares
+returns-in-Some-clause-shares c =
+    let v = c.args.asked.valid in
+    let found = found_at c.args.asked.holders.now c.args.party c.in-Some.at c.in-Some.ensures.found in
+    gives_there c.args.party c.in-Some.at c.args.asked.holders.now c.args.asked.sizes.now c.args.shares.now v.paired c.requires (distinct_single c.args.asked.holders.now v.once) found.0 found.1
+
+pub returns-in_default-clause-gave : goal.returns-in_default-clause-gave
+returns-in_default-clause-gave c =
+    let v = c.args.asked.valid in
+    let found = found_at c.args.asked.holders.now c.args.party c.in-Some.at c.in-Some.ensures.found in
+    sym (unspent_gone c.args.party c.in-Some.at c.args.asked.holders.now c.args.asked.sizes.now c.args.shares.now v.paired c.requires (distinct_single c.args.asked.holders.now v.once)
+    found.0 (inr c.if-shares-at.false))
+
+pub returns-in_default-2-clause-gave : goal.returns-in_default-2-clause-gave
+returns-in_default-2-clause-gave c =
+    let v = c.args.asked.valid in
+    sym (unspent_gone c.args.party _ c.args.asked.holders.now c.args.asked.sizes.now c.args.shares.now v.paired c.requires (distinct_single c.args.asked.holders.now v.once)
+    refl (inl (found_nowhere c.args.asked.holders.now c.args.party c.in_default.ensures.found)))

@@ -7,11 +7,11 @@ use Rattle.sharing.proofs.leftovers.give_outside.Goals.{then-left-gt0+then-not-h
 
 pub loop-holder-preserved : goal.loop-holder-preserved
 loop-holder-preserved c =
-    let passes = outside_passes (drawn c.args.roster.now) c.args.holders.now c.args.sizes.now c.loop-holder.holder-index _ c.loop-holder-test.true refl c.loop-holder.left c.loop-holder.shares in
+    let passes = outside_passes (drawn c.args.roster.now) c.args.asked.holders.now c.args.asked.sizes.now c.loop-holder.holder-index _ c.loop-holder-test.true refl c.loop-holder.left c.loop-holder.shares in
     elim c.if-left-gt0.branch [
       | then-left-gt0+then-not-has+then-give_one w ↦
           simp (w.shares-is, w.left-is)
-          (outside_gives (drawn c.args.roster.now) c.args.holders.now c.args.sizes.now c.loop-holder.holder-index _ c.loop-holder-test.true refl
+          (outside_gives (drawn c.args.roster.now) c.args.asked.holders.now c.args.asked.sizes.now c.loop-holder.holder-index _ c.loop-holder-test.true refl
           c.loop-holder.left c.loop-holder.shares w.give_one.new.shares w.if-left-gt0.true (sym w.if-not-has.ensures) (sym w.if-give_one.ensures.gave) w.if-give_one.ensures.shares
           ∙ c.loop-holder.invariant)
       | else-left-gt0 w ↦
@@ -27,5 +27,5 @@ loop-holder-preserved c =
 
 pub returns : goal.returns
 returns c =
-    outsiders (drawn c.args.roster.now) c.args.holders.now c.args.sizes.now c.loop-holder.holder-index c.args.left c.args.shares.now c.loop-holder.left c.loop-holder.shares
-    (distinct_single c.args.holders.now c.requires.once) c.loop-holder-test.false c.requires.paired.0 (c.requires.paired.1 ∙ c.requires.paired.0) c.loop-holder.invariant
+    outsiders (drawn c.args.roster.now) c.args.asked.holders.now c.args.asked.sizes.now c.loop-holder.holder-index c.args.left c.args.shares.now c.loop-holder.left c.loop-holder.shares
+    (distinct_single c.args.asked.holders.now c.args.asked.valid.once) c.loop-holder-test.false c.args.asked.valid.paired (c.requires ∙ c.args.asked.valid.paired) c.loop-holder.invariant

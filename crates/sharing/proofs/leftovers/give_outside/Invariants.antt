@@ -8,5 +8,5 @@ use Rattle.sharing.proofs.leftovers.give_outside.Given as goal
 -- from here it ends as from the start
 abbrev pub invariant-loop-holder : goal.invariant-loop-holder
 invariant-loop-holder l =
-    hand_out stays l.holders l.sizes (outside (drop l.holder-index l.holders) (drawn l.roster)) l.left 0 l.shares
-    ≡ hand_out stays l.holders l.sizes (outside l.holders (drawn l.roster)) l.initial.left 0 l.initial.shares
+    hand_out stays l.asked.holders.now l.asked.sizes.now (outside (drop l.holder-index l.asked.holders.now) (drawn l.roster)) l.left 0 l.shares
+    ≡ hand_out stays l.asked.holders.now l.asked.sizes.now (outside l.asked.holders.now (drawn l.roster)) l.initial.left 0 l.initial.shares

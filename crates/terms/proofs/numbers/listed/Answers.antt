@@ -1,5 +1,6 @@
-use Rattle.terms.proofs.Rows.{listed_place}
+use Rattle.std.proofs.Common.{◌∙◌}
+use Rattle.terms.proofs.Rows.{listed_any}
 use Rattle.terms.proofs.numbers.listed.Goals as goal
 
 pub returns : goal.returns
-returns c = rw c.place.ensures.place (listed_place c.args.numbers.now c.args.n)
+returns c = c.contains.ensures.value ∙ listed_any c.args.numbers.now c.args.n

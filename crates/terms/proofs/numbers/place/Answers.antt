@@ -1,18 +1,8 @@
-use Rattle.std.proofs.Common.{arith}
-use Rattle.terms.proofs.Rows.{place_here, place_on, place_end}
+use Rattle.std.proofs.Common.{ap, length, unwrap_or, ◌∙◌}
+use Rattle.terms.proofs.Rows.{place_or_end}
 use Rattle.terms.proofs.numbers.place.Goals as goal
 
-pub returns-then-m-n : goal.returns-then-m-n
-returns-then-m-n c =
-    let e = place_here c.args.numbers.now c.loop-i.i c.args.n (omega arith) c.if-m-n.true in
-    record { place = omega (arith, c.loop-i.invariant); within = omega arith }
-
-pub loop-i-preserved : goal.loop-i-preserved
-loop-i-preserved c =
-    let e = place_on c.args.numbers.now c.loop-i.i c.args.n (omega arith) c.if-m-n.false in
-    omega (arith, c.loop-i.invariant)
-
-pub returns : goal.returns
-returns c =
-    let e = place_end c.args.numbers.now c.loop-i.i c.args.n (omega arith) in
-    record { place = omega (arith, c.loop-i.invariant); within = omega arith }
+pub returns-clause-place : goal.returns-clause-place
+returns-clause-place c =
+    let xs = c.args.numbers.now in
+    ap (λ found. unwrap_or found (length xs)) c.first_equal.ensures ∙ place_or_end xs c.args.n

@@ -1,5 +1,5 @@
 use Rattle.std.proofs.Common.{ltb, sym, ap, ◌∙◌, arith}
-use Rattle.std.proofs.lemmas.List.Filters.{FiltersInPlace-all, FiltersInPlace-more_no, FiltersInPlace-more_set}
+use Rattle.std.proofs.lemmas.List.Filters.{FiltersInPlace-more_no, FiltersInPlace-more_set}
 use Rattle.std.proofs.lemmas.Bool.{lt-ltb, le-ltb}
 use Rattle.trade.proofs.compaction.gather_standing.Goals as goal
 use Rattle.trade.proofs.compaction.gather_standing.Goals.{then-left-gt0, else-left-gt0}
@@ -14,6 +14,3 @@ loop-i-preserved g c =
           rw (w.records-is, w.count-is) (FiltersInPlace-more_no c.loop-i.invariant (omega arith)
           (ap (ltb 0) (sym c.left.ensures) ∙ le-ltb 0 c.left.result w.if-left-gt0.false) c.index-records-i.is)
     ]
-
-pub returns : goal.returns
-returns g c = record { few = omega (arith, c.loop-i.invariant.behind); stand = FiltersInPlace-all c.loop-i.invariant (omega arith) }

@@ -1,35 +1,26 @@
-use Rattle.std.proofs.Common.{◌≡◌, ◌-◌, true, false, leb, take, sym, ap, ◌∙◌, arith}
-use Rattle.std.proofs.lemmas.Bool.{le-leb, lt-leb}
+use Rattle.std.proofs.Common.{◌≡◌, ◌-◌, false, leb, take, ap, arith}
+use Rattle.std.proofs.lemmas.Bool.{lt-leb}
 use Rattle.terms.specs.Numbers as row
 use Rattle.sharing.specs.Asking.{inputs_of}
 use Rattle.sharing.specs.Draw.{takers}
 use Rattle.sharing.specs.Made.{drawn}
-use Rattle.sharing.specs.BySize.{sum_most}
+use Rattle.terms.proofs.Rows.{sum_most}
 use Rattle.sharing.specs.Entitled.{base_low}
 use Rattle.sharing.proofs.Queueing.{drawn_shares}
-use Rattle.sharing.specs.Rosters.{same_rule, still_rule, turned_turn, drawn_turn}
+use Rattle.sharing.specs.Rosters.{same_rule, turned_turn, drawn_turn}
 use Rattle.sharing.proofs.draw.DrawRuleSharingRule.share.Goals as goal
 
 pub sum-total-requires : goal.sum-total-requires
-sum-total-requires c = omega (arith, sum_most 99999 c.args.asked.sizes.now c.requires.0.sized)
-
-pub returns-then-asked-total : goal.returns-then-asked-total
-returns-then-asked-total c =
-    let covers : leb (row.sum c.args.asked.sizes.now) c.args.asked.number ≡ true =
-    le-leb (row.sum c.args.asked.sizes.now) c.args.asked.number (omega (arith, c.sum-total.ensures)) in
-    record {
-      shares = c.copy_from_slice.ensures.after ∙ rw covers;
-      next = sym (still_rule c.args.self.now (inputs_of c.args.asked) (rw covers));
-    }
+sum-total-requires c = omega (arith, sum_most 99999 c.args.asked.sizes.now c.args.asked.valid.sized)
 
 pub sum-requires : goal.sum-requires
 sum-requires c =
-    let low = base_low c.args.self.now.specialist (inputs_of c.args.asked) c.sum-total.result c.share_base.new.out c.requires.0 c.sum-total.ensures c.if-asked-total.false c.share_base.ensures in
+    let low = base_low c.args.self.now.specialist (inputs_of c.args.asked) c.sum-total.result c.share_base.new.out c.args.asked.valid c.sum-total.ensures c.if-asked-total.false c.share_base.ensures in
     omega arith
 
 pub overflow_sub-left : goal.overflow_sub-left
 overflow_sub-left c =
-    let low = base_low c.args.self.now.specialist (inputs_of c.args.asked) c.sum-total.result c.share_base.new.out c.requires.0 c.sum-total.ensures c.if-asked-total.false c.share_base.ensures in
+    let low = base_low c.args.self.now.specialist (inputs_of c.args.asked) c.sum-total.result c.share_base.new.out c.args.asked.valid c.sum-total.ensures c.if-asked-total.false c.share_base.ensures in
     omega (arith, c.sum.ensures)
 
 pub invariant_of-self : goal.invariant_of-self
