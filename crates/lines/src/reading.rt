@@ -1,5 +1,5 @@
 // Lines taken one by one from an input that may hold any bytes.
-ghost use Rattle.std.specs.Prelude.{◌≡◌, ◌≤◌, take, vec_len, OnOk, IfSome};
+ghost use Rattle.std.specs.Prelude.{◌≡◌, ◌<◌, ◌≤◌, length, nat_lt, take, vec_len, OnOk, IfOk, IfSome};
 ghost use Rattle.std.specs.Io.BufRead.{ends_with_byte, first_piece, strip_last, take_through};
 
 use std::io;
@@ -9,6 +9,7 @@ use std::io::{BufRead, Read};
 fn take_front<R: BufRead>(input: &mut R, most: usize, line: &mut Vec<u8>) -> io::Result<usize>
     ensures within { vec_len line.new ≤ most }
     ensures front { OnOk result (IfSome (R.remaining input.old) (λ xs. line.new.items ≡ take_through 10 (take most xs))) }
+    ensures some { IfOk result (λ n. IfSome (R.remaining input.old) (λ xs. 0 < most → nat_lt 0 n ≡ nat_lt 0 (length xs))) }
 {
     line.clear();
     let taken = input.take(most as u64).read_until(b'\n', line);
@@ -34,6 +35,7 @@ fn pop_end(line: &mut Vec<u8>) -> bool
 pub fn next_line<R: BufRead>(input: &mut R, most: usize, line: &mut Vec<u8>) -> io::Result<bool>
     ensures within { vec_len line.new ≤ most }
     ensures line { OnOk result (IfSome (R.remaining input.old) (λ xs. line.new.items ≡ take most (first_piece 10 xs))) }
+    ensures some { IfOk result (λ more. IfSome (R.remaining input.old) (λ xs. 0 < most → more ≡ nat_lt 0 (length xs))) }
 {
     let taken = take_front(input, most, line)?;
     let ended = pop_end(line);
