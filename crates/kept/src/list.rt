@@ -1,13 +1,11 @@
 // The kept list: ranked records, best first, in places that the caller lends.
 ghost use Rattle.std.specs.Prelude.{◌≡◌, ℕ, ◌≤◌, length, take, position, IfSome};
 ghost use Rattle.std.specs.List.{slice_get};
-ghost use Rattle.terms.specs.Sides.{side_number};
 ghost use Rattle.kept.specs.Inserting.{place_of};
 ghost use Rattle.kept.specs.Kept.{places, standing, StaysSound, SameExtent, Made, Makes, Inserts, Replaces, Alike, Removes};
 
 use crate::ranked::{Keyed, Ranked, clear};
 use std::mem;
-use terms::Side;
 
 // The first `count` places hold the records that stand, of which there may be at most `bound`.
 // A list that is made and changed by its own calls keeps `count` at most `bound`, and `bound` at most the places there are.
@@ -61,10 +59,10 @@ impl<'a, R: Ranked + Copy> KeptList<'a, R> {
     }
 
     // Puts a record behind all that are no worse on the side, and says at which place it then stands. A full list refuses.
-    pub fn insert(&mut self, side: Side, item: R) -> Option<usize>
-        ensures inserts { Inserts (R.Ranked.ranks (side_number side)) item self.old self.new result }
+    pub fn insert(&mut self, side: u32, item: R) -> Option<usize>
+        ensures inserts { Inserts (R.Ranked.ranks side) item self.old self.new result }
         ensures same { SameExtent self.old self.new }
-        ensures keeps { StaysSound (R.Ranked.ranks (side_number side)) R.Ranked.cleared self.old self.new }
+        ensures keeps { StaysSound (R.Ranked.ranks side) R.Ranked.cleared self.old self.new }
     {
         if self.count >= self.bound || self.count >= self.slots.len() {
             return None;
@@ -100,7 +98,7 @@ impl<'a, R: Ranked + Copy> KeptList<'a, R> {
         }
         let gone = self.slots[place];
         self.slots[place..count].rotate_left(1);
-        self.slots[count - 1] = R::default();
+        self.slots[count - 1] = R::blank();
         self.count = count - 1;
         Some(gone)
     }
@@ -113,8 +111,8 @@ impl<'a, R: Ranked + Copy> KeptList<'a, R> {
     }
 
     // Where a record goes: behind all that are no worse.
-    fn place_for(&self, side: Side, item: &R) -> usize
-        ensures place { result ≡ place_of (R.Ranked.ranks (side_number side)) item.now (standing self.now) }
+    fn place_for(&self, side: u32, item: &R) -> usize
+        ensures place { result ≡ place_of (R.Ranked.ranks side) item.now (standing self.now) }
         ensures within { result ≤ self.now.count }
     {
         self.standing()

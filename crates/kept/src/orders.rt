@@ -4,7 +4,6 @@ ghost use Rattle.std.proofs.Common.{rules};
 
 use crate::ranked::{Keyed, Ranked, better};
 use crate::standing::Standing;
-use terms::Side;
 
 #[derive(Clone, Copy, Debug, Default, PartialEq, Eq)]
 pub struct Order {
@@ -18,16 +17,16 @@ impl Ranked for Order {
 
     ghost cleared = { no_order };
 
-    ghost blank = { Prim.search rules };
-
-    ghost sided = { Prim.search rules };
-
     ghost total = { Prim.search rules };
 
     ghost chained = { Prim.search rules };
 
-    fn no_worse(&self, side: Side, other: &Order) -> bool {
+    fn no_worse(&self, side: u32, other: &Order) -> bool {
         !better(side, other.price, self.price)
+    }
+
+    fn blank() -> Order {
+        Order::default()
     }
 }
 

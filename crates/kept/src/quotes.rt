@@ -4,7 +4,6 @@ ghost use Rattle.std.proofs.Common.{rules};
 
 use crate::ranked::{Keyed, Ranked, better};
 use crate::standing::Standing;
-use terms::Side;
 
 #[derive(Clone, Copy, Debug, Default, PartialEq, Eq)]
 pub struct Quote {
@@ -19,17 +18,17 @@ impl Ranked for Quote {
 
     ghost cleared = { no_quote };
 
-    ghost blank = { Prim.search rules };
-
-    ghost sided = { Prim.search rules };
-
     ghost total = { Prim.search rules };
 
     ghost chained = { Prim.search rules };
 
-    fn no_worse(&self, side: Side, other: &Quote) -> bool {
+    fn no_worse(&self, side: u32, other: &Quote) -> bool {
         better(side, self.price, other.price)
             || (self.price == other.price && self.place <= other.place)
+    }
+
+    fn blank() -> Quote {
+        Quote::default()
     }
 }
 

@@ -22,9 +22,9 @@ fn number_at(list: &KeptList<'_, Order>, place: usize) -> u32 {
 fn best_first(side: Side, prices: [u32; 3]) -> [u32; 3] {
     let mut table = [Order::default(); 3];
     let mut list = KeptList::empty(&mut table, 3);
-    let _ = list.insert(side, order(1, prices[0]));
-    let _ = list.insert(side, order(2, prices[1]));
-    let _ = list.insert(side, order(3, prices[2]));
+    let _ = list.insert(side.number(), order(1, prices[0]));
+    let _ = list.insert(side.number(), order(2, prices[1]));
+    let _ = list.insert(side.number(), order(3, prices[2]));
     [
         number_at(&list, 0),
         number_at(&list, 1),
@@ -47,7 +47,7 @@ fn quotes_at_one_price_stand_as_drawn(rt: HostRuntime) {
     let mut table = [Quote::default(); 2];
     let mut list = KeptList::empty(&mut table, 2);
     let _ = list.insert(
-        Side::Offers,
+        Side::Offers.number(),
         Quote {
             party: 20,
             price: 110,
@@ -57,7 +57,7 @@ fn quotes_at_one_price_stand_as_drawn(rt: HostRuntime) {
     );
     assert_eq!(rt;
         list.insert(
-            Side::Offers,
+            Side::Offers.number(),
             Quote {
                 party: 10,
                 price: 110,
@@ -73,7 +73,7 @@ fn quotes_at_one_price_stand_as_drawn(rt: HostRuntime) {
 fn a_removed_order_leaves_a_cleared_place(rt: HostRuntime) {
     let mut table = [order(7, 110); 2];
     let mut list = KeptList::empty(&mut table, 2);
-    let _ = list.insert(Side::Offers, order(1, 110));
+    let _ = list.insert(Side::Offers.number(), order(1, 110));
     assert!(rt; list.remove(0).is_some());
     assert!(rt; list.find(1).is_none());
     assert_eq!(rt; table[0].number, 0);
@@ -83,8 +83,8 @@ fn a_removed_order_leaves_a_cleared_place(rt: HostRuntime) {
 fn a_full_list_refuses(rt: HostRuntime) {
     let mut table = [Order::default(); 2];
     let mut list = KeptList::empty(&mut table, 1);
-    let _ = list.insert(Side::Bids, order(1, 110));
-    assert_eq!(rt; list.insert(Side::Bids, order(2, 120)), None);
+    let _ = list.insert(Side::Bids.number(), order(1, 110));
+    assert_eq!(rt; list.insert(Side::Bids.number(), order(2, 120)), None);
 }
 
 #[test]

@@ -1,56 +1,79 @@
 // Lines taken one by one from an input that may hold any bytes.
-ghost use Rattle.std.specs.Prelude.{◌≡◌, ◌<◌, ◌≤◌, length, nat_lt, take, vec_len, OnOk, IfOk, IfSome};
-ghost use Rattle.std.specs.Io.BufRead.{ends_with_byte, first_piece, strip_last, take_through};
+ghost use Rattle.std.specs.Prelude.{◌≡◌, ◌≤◌, ◌++◌, ◌==◌, length, nat_lt, take, vec_len, is_ok, if◌then◌else◌, position, OnOk, IfOk, IfSome};
+ghost use Rattle.std.specs.Io.BufRead.{DropsThrough, first_piece};
+ghost use Rattle.lines.specs.Reading.{Took};
 
+use std::alloc::AllocError;
 use std::io;
-use std::io::{BufRead, Read};
+use std::io::BufRead;
 
-// Takes the front of the next line into `line`, its end too where that is among so many bytes, and says how many bytes came.
-fn take_front<R: BufRead>(input: &mut R, most: usize, line: &mut Vec<u8>) -> io::Result<usize>
+// Adds bytes to a line, of which it keeps so many at the most.
+fn keep(bytes: &[u8], most: usize, line: &mut Vec<u8>) -> Result<(), AllocError>
+    requires { vec_len line.old ≤ most }
     ensures within { vec_len line.new ≤ most }
-    ensures front { OnOk result (IfSome (R.remaining input.old) (λ xs. line.new.items ≡ take_through 10 (take most xs))) }
-    ensures some { IfOk result (λ n. IfSome (R.remaining input.old) (λ xs. 0 < most → nat_lt 0 n ≡ nat_lt 0 (length xs))) }
+    ensures kept { line.new.items ≡ (if is_ok result then take most (line.old.items ++ bytes.now) else line.old.items) }
 {
-    line.clear();
-    let taken = input.take(most as u64).read_until(b'\n', line);
-    // no bound is promised for what came before an error
-    line.truncate(most);
-    taken
+    let room = most - line.len();
+    let n = room.min(bytes.len());
+    line.extend_from_slice(&bytes[..n])
 }
 
-// Takes a line's end off, and says whether it was there.
-fn pop_end(line: &mut Vec<u8>) -> bool
-    ensures ended { result ≡ ends_with_byte 10 line.old.items }
-    ensures line { line.new.items ≡ strip_last 10 line.old.items }
+// Where the first line end stands.
+fn first_end(bytes: &[u8]) -> Option<usize>
+    ensures { result ≡ position (λ b. b == 10) bytes.now }
 {
-    let ended = line.last() == Some(&b'\n');
-    if ended {
-        line.pop();
+    bytes.iter().position(|b| *b == b'\n')
+}
+
+// Takes what the input shows of a line, its end too where that is shown, and adds it to `line`. Says how many bytes that were, and whether
+// the line is done: its end came, or the input has ended. It looks once: `read_until` would try an interrupted read again, of its own accord.
+fn take_part<R: BufRead>(
+    input: &mut R,
+    most: usize,
+    line: &mut Vec<u8>,
+) -> io::Result<(usize, bool)>
+    requires { vec_len line.old ≤ most }
+    ensures within { vec_len line.new ≤ most }
+    ensures took { IfOk result (λ r. Took (R.remaining input.old) (R.remaining input.new) most line.old.items line.new.items r.0 r.1) }
+{
+    let shown = input.fill_buf()?;
+    if let Some(end) = first_end(shown) {
+        keep(&shown[..end], most, line)?;
+        input.consume(end + 1);
+        return Ok((end + 1, true));
     }
-    ended
+    let len = shown.len();
+    keep(shown, most, line)?;
+    input.consume(len);
+    Ok((len, len == 0))
 }
 
 // Takes the next line into `line`, without its end; the last line may lack it. False where the input has ended. Of a line it keeps
-// so many bytes at the most and passes over the others, so that a line without end takes no memory.
+// so many bytes at the most and passes over the others, so that a line without end takes no memory. A read that fails ends it, one that
+// was interrupted too.
 pub fn next_line<R: BufRead>(input: &mut R, most: usize, line: &mut Vec<u8>) -> io::Result<bool>
     ensures within { vec_len line.new ≤ most }
     ensures line { OnOk result (IfSome (R.remaining input.old) (λ xs. line.new.items ≡ take most (first_piece 10 xs))) }
-    ensures some { IfOk result (λ more. IfSome (R.remaining input.old) (λ xs. 0 < most → more ≡ nat_lt 0 (length xs))) }
+    ensures some { IfOk result (λ more. IfSome (R.remaining input.old) (λ xs. more ≡ nat_lt 0 (length xs))) }
+    ensures rest { OnOk result (DropsThrough (R.remaining input.old) (R.remaining input.new) 10) }
 {
-    let taken = take_front(input, most, line)?;
-    let ended = pop_end(line);
-    // where fewer bytes came, and no end, the input has ended: at a terminal one more read would wait for a second end
-    let passed = if ended || taken < most {
-        0
-    } else {
-        input.skip_until(b'\n')?
-    };
-    Ok(taken > 0 || passed > 0)
+    line.clear();
+    let mut some = false;
+    for _ in 0..u64::MAX {
+        let (taken, done) = take_part(input, most, line)?;
+        some |= taken > 0;
+        if done {
+            return Ok(some);
+        }
+    }
+    // so many looks never come to an end
+    Err(io::Error::from(io::ErrorKind::TimedOut))
 }
 
 #[cfg(test)]
 mod tests {
     use super::*;
+    use std::io::Read;
     use std::test::Fail;
 
     // Lines of one byte less than is kept, of as many, of more and of none, and a last one without its end.
@@ -97,5 +120,32 @@ mod tests {
         }
         assert!(rt; !next_line(&mut input, 0, &mut line)?);
         Ok(())
+    }
+
+    // An input of which every look is interrupted.
+    #[derive(Drop)]
+    struct Interrupted;
+
+    impl Read for Interrupted {
+        fn read(&mut self, _buf: &mut [u8]) -> io::Result<usize> {
+            Err(io::Error::from(io::ErrorKind::Interrupted))
+        }
+    }
+
+    impl BufRead for Interrupted {
+        fn fill_buf(&mut self) -> io::Result<&[u8]> {
+            Err(io::Error::from(io::ErrorKind::Interrupted))
+        }
+
+        fn consume(&mut self, _amount: usize) {}
+    }
+
+    #[test]
+    fn does_not_try_an_interrupted_read_again(rt: HostRuntime) {
+        let mut line = Vec::new(rt.alloc());
+        match next_line(&mut Interrupted, 4, &mut line) {
+            Ok(_) => assert!(rt; false),
+            Err(error) => assert!(rt; error.kind() == io::ErrorKind::Interrupted),
+        }
     }
 }

@@ -3,7 +3,7 @@ use crate::entries::Entries;
 use terms::MOST_ENTRIES;
 
 // One for each class.
-#[derive(Default, Drop)]
+#[derive(Clone, Copy, Default)]
 pub struct ByClass<T> {
     pub customers: T,
     pub makers: T,

@@ -1,7 +1,6 @@
 // What a line says.
 use crate::fault::Fault;
 use crate::order::Order;
-use arrayvec::ArrayVec;
 use lines::{Fields, number};
 use terms::{Class, MOST_PARTY, MOST_TRADED, within};
 
@@ -11,10 +10,11 @@ pub const MOST_BYTES: usize = 200;
 // More numbers than a line has room for, since a blank stands before each.
 const MOST_FIELDS: usize = MOST_BYTES / 2;
 
-// The day's draw: parties in their order, and the specialist, 0 for none as the rule is asked.
-#[derive(Drop)]
+// The day's draw: so many parties in their order, and the specialist, 0 for none as the rule is asked.
+#[derive(Clone, Copy)]
 pub struct Draw {
-    pub parties: ArrayVec<u32, MOST_FIELDS>,
+    pub parties: [u32; MOST_FIELDS],
+    pub count: usize,
     pub specialist: u32,
 }
 
@@ -26,7 +26,7 @@ pub struct Entry {
     pub size: u32,
 }
 
-#[derive(Drop)]
+#[derive(Clone, Copy)]
 pub enum Command {
     // an empty line, or a note, which begins with #
     Nothing,
@@ -63,21 +63,25 @@ fn read_entry(class: Class, fields: &mut Fields<'_>) -> Result<Command, Fault> {
 
 // draw, then parties, and at the end perhaps: specialist and a party.
 fn read_draw(fields: &mut Fields<'_>) -> Result<Command, Fault> {
-    let mut parties = ArrayVec::new();
-    let mut specialist = 0;
+    let mut draw = Draw {
+        parties: [0; MOST_FIELDS],
+        count: 0,
+        specialist: 0,
+    };
     while let Some(part) = fields.next() {
         if part.text == b"specialist".as_slice() {
-            specialist = read_number(fields)?;
+            draw.specialist = read_number(fields)?;
             read_end(fields)?;
             break;
         }
         let party = number(part.text).ok_or(Fault::Number)?;
-        parties.try_push(party).map_err(|_| Fault::Parties)?;
+        if draw.count >= MOST_FIELDS {
+            return Err(Fault::TooMany);
+        }
+        draw.parties[draw.count] = party;
+        draw.count += 1;
     }
-    Ok(Command::Draw(Draw {
-        parties,
-        specialist,
-    }))
+    Ok(Command::Draw(draw))
 }
 
 // order, its size, and perhaps: to and a party.

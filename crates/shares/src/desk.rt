@@ -6,8 +6,8 @@ use crate::fault::Fault;
 use crate::level::share_order;
 use crate::order::Order;
 use sharing::DrawRule;
+use std::io;
 use std::io::Write;
-use std::{io, mem};
 use terms::{Class, MOST_ORDER_NUMBER, MOST_PARTY};
 
 // The makers' rule, which goes on from case to case, and the case at hand, which ends with its order line. At first nobody is drawn.
@@ -59,7 +59,8 @@ impl Desk {
     }
 
     fn take_draw(&mut self, draw: &Draw) -> Result<(), Fault> {
-        self.rule = DrawRule::draw(&draw.parties, draw.specialist)?;
+        let parties = draw.parties.get(..draw.count).ok_or(Fault::Parties)?;
+        self.rule = DrawRule::draw(parties, draw.specialist)?;
         Ok(())
     }
 
@@ -78,18 +79,20 @@ impl Desk {
 
     // Ends the case: shares it, or says why not.
     fn take_order<W: Write>(&mut self, number: u64, order: Order, out: &mut W) -> io::Result<()> {
-        let case = mem::take(&mut self.case);
-        match self.bad.take() {
+        let told = match self.bad.take() {
             Some(bad) => writeln!(
                 out,
                 "line {number} shares nothing, since line {bad} was not taken"
             ),
-            None => self.share(order, &case, out),
-        }
+            None => self.share(order, out),
+        };
+        self.case = Case::default();
+        told
     }
 
     // Shares an order and prints the shares, what is left of it, and the turn.
-    fn share<W: Write>(&mut self, order: Order, case: &Case, out: &mut W) -> io::Result<()> {
+    fn share<W: Write>(&mut self, order: Order, out: &mut W) -> io::Result<()> {
+        let case = &self.case;
         let mut shares = Shares::default();
         let left = share_order(order, case, &mut self.rule, &mut shares);
         print_class(out, "customers", &case.customers, &shares.customers)?;

@@ -28,12 +28,12 @@ pub enum Fault {
     Directed,
 }
 
-// What to tell whoever typed the line.
-impl fmt::Display for Fault {
-    ghost output = { λ fault. Some (text_of fault) };
-
-    fn fmt<W: fmt::Write>(&self, f: &mut fmt::Formatter<W>) -> fmt::Result {
-        f.write_str(match self {
+impl Fault {
+    // What to tell whoever typed the line.
+    pub fn text(self) -> &'static str
+        ensures { result.now ≡ text_of self }
+    {
+        match self {
             Fault::TooLong => "is longer than 200 bytes",
             Fault::Word => "begins with none of draw, customer, maker, firm, order",
             Fault::Number => "has a field that is no number (1 to 9 digits, no leading zero)",
@@ -48,7 +48,15 @@ impl fmt::Display for Fault {
             Fault::Full => "is one entry more than the 64 that a class may have",
             Fault::Order => "has an order's size out of 1 to 999999",
             Fault::Directed => "directs the order to a party out of 1 to 65535",
-        })
+        }
+    }
+}
+
+impl fmt::Display for Fault {
+    ghost output = { λ fault. Some (text_of fault) };
+
+    fn fmt<W: fmt::Write>(&self, f: &mut fmt::Formatter<W>) -> fmt::Result {
+        f.write_str(self.text())
     }
 }
 

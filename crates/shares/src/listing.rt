@@ -4,8 +4,7 @@ ghost use Rattle.shares.specs.Listed.{accepts, count, holders_of, sizes_of};
 
 use crate::entries::Entries;
 use crate::fault::Fault;
-use arrayvec::ArrayVec;
-use terms::{MOST_CONTRACTS, listed, within};
+use terms::{MOST_CONTRACTS, MOST_ENTRIES, listed, within};
 
 // No entries.
 impl Default for Entries {
@@ -13,8 +12,9 @@ impl Default for Entries {
 
     fn default() -> Entries {
         Entries {
-            holders: ArrayVec::new(),
-            sizes: ArrayVec::new(),
+            holders: [0; MOST_ENTRIES],
+            sizes: [0; MOST_ENTRIES],
+            count: 0,
         }
     }
 }
@@ -25,7 +25,7 @@ impl Entries {
         ensures value { result.now ≡ holders_of self.now }
         ensures len { length result.now ≡ count self.now }
     {
-        &self.holders
+        &self.holders[..self.count]
     }
 
     // Their sizes.
@@ -33,11 +33,11 @@ impl Entries {
         ensures value { result.now ≡ sizes_of self.now }
         ensures len { length result.now ≡ count self.now }
     {
-        &self.sizes
+        &self.sizes[..self.count]
     }
 
     // One more entry behind the others, whose holder's number is at most so high.
-    #[tactic(auto, using(terms::proofs::Rows::distinct_push, terms::proofs::Rows::ranged_push))]
+    #[tactic(auto, using(std::proofs::lemmas::List::take_more_set, terms::proofs::Rows::distinct_push, terms::proofs::Rows::ranged_push))]
     pub fn add(&mut self, most: u32, holder: u32, size: u32) -> Result<(), Fault>
         ensures taken { is_ok result ≡ accepts most holder size self.old }
         ensures holders { holders_of self.new ≡ (if is_ok result then holders_of self.old ++ holder ∷ [] else holders_of self.old) }
@@ -52,11 +52,12 @@ impl Entries {
         if listed(holder, self.holders()) {
             return Err(Fault::Twice);
         }
-        if self.holders.is_full() {
+        if self.count >= MOST_ENTRIES {
             return Err(Fault::Full);
         }
-        self.holders.push(holder);
-        self.sizes.push(size);
+        self.holders[self.count] = holder;
+        self.sizes[self.count] = size;
+        self.count += 1;
         Ok(())
     }
 }

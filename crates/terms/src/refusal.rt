@@ -8,7 +8,7 @@ pub enum Refusal {
     TooManyParties = 3,
     // a party out of 1 to 65,535, or drawn twice
     BadParty = 4,
-    // a specialist that is not drawn
+    // a specialist that is neither 0 nor drawn
     SpecialistNotDrawn = 5,
     // a class that the call does not know
     BadClass = 7,

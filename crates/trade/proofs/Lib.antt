@@ -6,3 +6,4 @@ mod Going
 mod Leaving
 mod Settling
 mod Lasting
+mod Sided

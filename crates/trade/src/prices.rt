@@ -1,13 +1,21 @@
 // The best price ahead, in tables that are best first.
 ghost use Rattle.std.specs.Prelude.{◌≡◌, ◌≤◌, map, length, drop};
 ghost use Rattle.terms.specs.Sides.{side_number};
+ghost use Rattle.kept.specs.Ranked.{better};
 ghost use Rattle.trade.specs.Prices.{ahead, best, best_ahead};
 ghost use Rattle.trade.specs.State.{Inside, state_of, to_come};
 
 use crate::market::Market;
 use crate::reached::Reached;
-use kept::{Standing, better};
+use kept::Standing;
 use terms::Side;
+
+// Whether a price is better than another on a side.
+pub(crate) fn better(side: Side, price: u32, other: u32) -> bool
+    ensures { result ≡ better (side_number side) price other }
+{
+    kept::better(side.number(), price, other)
+}
 
 // The better of two prices, or the one that there is.
 fn best_of(side: Side, price: Option<u32>, other: Option<u32>) -> Option<u32>

@@ -8,8 +8,8 @@ ghost use Rattle.trade.specs.Sweep.{Sweeps};
 
 use crate::incoming::Incoming;
 use crate::market::Market;
+use crate::prices::better;
 use crate::reached::Reached;
-use kept::better;
 use sharing::SharingRule;
 use terms::Side;
 

@@ -1,5 +1,4 @@
 // A Trade against the three tables of a book.
-ghost use Rattle.terms.specs.Sides.{side_number};
 ghost use Rattle.model.specs.Trading.{rule as meaning};
 ghost use Rattle.kept.specs.Orders.{order_shown};
 ghost use Rattle.kept.specs.Quotes.{quote_shown};
@@ -15,7 +14,7 @@ use terms::Side;
 // Trades an incoming order against the tables of a side: at each price customers share first, then makers by their rule, then firms by
 // theirs. Returns the contracts that are left. The blocks show who was filled, whatever they held before.
 pub fn trade<M: SharingRule, F: SharingRule>(
-    side: Side,
+    side: u32,
     incoming: Incoming,
     tables: &mut Tables<'_>,
     makers_rule: &mut M,
@@ -24,17 +23,17 @@ pub fn trade<M: SharingRule, F: SharingRule>(
     maker_block: &mut [u32],
     firm_block: &mut [u32],
 ) -> u32
-    requires customers { Tradable order_shown (side_number side) 64 tables.old.customers }
-    requires makers { Tradable quote_shown (side_number side) 16 tables.old.makers }
-    requires firms { Tradable order_shown (side_number side) 64 tables.old.firms }
+    requires customers { Tradable order_shown side 64 tables.old.customers }
+    requires makers { Tradable quote_shown side 16 tables.old.makers }
+    requires firms { Tradable order_shown side 64 tables.old.firms }
     requires blocks { FullLength (blocks_from customer_block.old maker_block.old firm_block.old) }
-    ensures { Trades (meaning M.SharingRule.shares M.SharingRule.next) (meaning F.SharingRule.shares F.SharingRule.next) (side_number side) incoming
+    ensures { Trades (meaning M.SharingRule.shares M.SharingRule.next) (meaning F.SharingRule.shares F.SharingRule.next) side incoming
         tables.old makers_rule.old firms_rule.old
         result tables.new makers_rule.new firms_rule.new
         (blocks_from customer_block.new maker_block.new firm_block.new) }
 {
     trade_lists(
-        side,
+        Side::from(side),
         incoming,
         &mut tables.customers,
         &mut tables.makers,

@@ -11,6 +11,6 @@ returns g c =
     let place = c.args.place in
     let n = c.len-count.result in
     let is = c.len-count.ensures in
-    let cleared = ap (λ b. remove (take n slots) place ++ b ∷ drop n slots) (g.met.R.Ranked.blank c.default.result c.default.ensures) in
+    let cleared = ap (λ b. remove (take n slots) place ++ b ∷ drop n slots) c.blank.ensures in
     left _ _ _ _ _ refl n refl (taken_out slots place n _ _ c.rotate_left.ensures.after (omega arith) is.within ∙ cleared) (omega arith) is.count is.within is.same
     (stands_at old place _ c.index-self-place.result (omega (arith, is.count)) refl) g.R.Ranked.ranks
