@@ -1,5 +1,7 @@
 // The fields of a line, which one blank parts from the next.
-ghost use Rattle.std.specs.Prelude.{◌≡◌, ◌≤◌, ◌==◌, length, Some, position, unwrap_or};
+ghost use Rattle.std.specs.Prelude.{◌≡◌, ◌≤◌, length, Some, unwrap_or};
+
+use crate::scan::first;
 
 // One field: its bytes, and where in the line it begins, from 0.
 #[derive(Clone, Copy, PartialEq, Eq, Debug)]
@@ -30,13 +32,6 @@ impl<'a> Fields<'a> {
     }
 }
 
-// Where the first blank stands.
-fn first_blank(bytes: &[u8]) -> Option<usize>
-    ensures { result ≡ position (λ b. b == 32) bytes.now }
-{
-    bytes.iter().position(|b| *b == b' ')
-}
-
 impl<'a> Iterator for Fields<'a> {
     ghost use Rattle.std.specs.Iterator.{at_most};
     ghost use Rattle.lines.specs.Fields.{GivesField, most_left};
@@ -51,7 +46,7 @@ impl<'a> Iterator for Fields<'a> {
     fn next(&mut self) -> Option<Part<'a>> {
         let column = self.start?;
         let rest = &self.line[column..];
-        let Some(len) = first_blank(rest) else {
+        let Some(len) = first(b' ', rest) else {
             self.start = None;
             return Some(Part { text: rest, column });
         };

@@ -4,6 +4,7 @@
 mod fields;
 mod numeral;
 mod reading;
+mod scan;
 
 pub use fields::{Fields, Part};
 pub use numeral::number;

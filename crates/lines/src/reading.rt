@@ -1,8 +1,9 @@
 // Lines taken one by one from an input that may hold any bytes.
-ghost use Rattle.std.specs.Prelude.{◌≡◌, ◌≤◌, ◌++◌, ◌==◌, length, nat_lt, take, vec_len, is_ok, if◌then◌else◌, position, OnOk, IfOk, IfSome};
+ghost use Rattle.std.specs.Prelude.{◌≡◌, ◌≤◌, ◌++◌, length, nat_lt, take, vec_len, is_ok, if◌then◌else◌, OnOk, IfOk, IfSome};
 ghost use Rattle.std.specs.Io.BufRead.{DropsThrough, first_piece};
 ghost use Rattle.lines.specs.Reading.{Took};
 
+use crate::scan::first;
 use std::alloc::AllocError;
 use std::io;
 use std::io::BufRead;
@@ -18,13 +19,6 @@ fn keep(bytes: &[u8], most: usize, line: &mut Vec<u8>) -> Result<(), AllocError>
     line.extend_from_slice(&bytes[..n])
 }
 
-// Where the first line end stands.
-fn first_end(bytes: &[u8]) -> Option<usize>
-    ensures { result ≡ position (λ b. b == 10) bytes.now }
-{
-    bytes.iter().position(|b| *b == b'\n')
-}
-
 // Takes what the input shows of a line, its end too where that is shown, and adds it to `line`. Says how many bytes that were, and whether
 // the line is done: its end came, or the input has ended. It looks once: `read_until` would try an interrupted read again, of its own accord.
 fn take_part<R: BufRead>(
@@ -37,7 +31,7 @@ fn take_part<R: BufRead>(
     ensures took { IfOk result (λ r. Took (R.remaining input.old) (R.remaining input.new) most line.old.items line.new.items r.0 r.1) }
 {
     let shown = input.fill_buf()?;
-    if let Some(end) = first_end(shown) {
+    if let Some(end) = first(b'\n', shown) {
         keep(&shown[..end], most, line)?;
         input.consume(end + 1);
         return Ok((end + 1, true));

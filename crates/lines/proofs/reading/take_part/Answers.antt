@@ -11,7 +11,7 @@ pub returns-in-Some-clause-took : goal.returns-in-Some-clause-took
 returns-in-Some-clause-took g c =
     let shown = c.in_ok-shown.shown.now in
     let k = c.in-Some.end in
-    let at = end_at shown k (sym c.in-Some.is ∙ c.first_end.ensures) in
+    let at = end_at shown k (sym c.in-Some.is ∙ c.first.ensures) in
     let within : k + 1 ≤ length shown = omega (arith, at.0) in
     let long = length-take-le (k + 1) shown within in
     let rested = c.fill_buf.follows.lender-at-none in
@@ -32,7 +32,7 @@ returns-in-Some-clause-took g c =
 pub returns-clause-took : goal.returns-clause-took
 returns-clause-took g c =
     let shown = c.in_ok-shown.shown.now in
-    let none = end_nowhere shown (sym c.in_default.is ∙ c.first_end.ensures) in
+    let none = end_nowhere shown (sym c.in_default.is ∙ c.first.ensures) in
     let rested = c.fill_buf.follows.lender-at-none in
     let filled = subst (FillKeeps _ (g.R.Read.remaining rested) (g.R.BufRead.consumable_len rested)) c.in_ok-shown.was c.fill_buf.follows.holds-at-none in
     let moved = Consumes_shown _ _ _ _ shown (length shown) (omega arith) c.in_ok-shown.ensures.front c.in_ok-shown.ensures.end filled.0 filled.1 c.consume-2.ensures.bytes in
