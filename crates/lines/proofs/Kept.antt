@@ -1,5 +1,5 @@
 -- What is kept of a line, and where its end stands among the bytes that an input shows.
-use Rattle.std.proofs.Common.{◌≡◌, ◌≢◌, ◌==◌, ◌+◌, ◌-◌, ◌<◌, ◌≤◌, ◌||◌, ℕ, nat_lt, suc, zero, false, true≢false, Bool, Option, Some, None, All, IfSome, List, [], ◌∷◌, ◌++◌, length, take, refl, ap, sym, ◌∙◌, arith, length-append, length-take-le, append-nil, get_or, get_or-take, eq-eqb, eqb-true, ne_eqb}
+use Rattle.std.proofs.Common.{◌≡◌, ◌≢◌, ◌==◌, ◌+◌, ◌-◌, ◌<◌, ◌≤◌, ◌||◌, ℕ, nat_lt, suc, zero, false, true≢false, Bool, Option, Some, None, IfSome, List, [], ◌∷◌, ◌++◌, length, take, refl, ap, sym, ◌∙◌, arith, length-append, length-take-le, append-nil, get_or, get_or-take, eq-eqb, eqb-true, ne_eqb}
 use Rattle.std.specs.Io.{IsEmptyOrEndsWith}
 use Rattle.std.specs.Io.BufRead.{take_through, strip_last, first_piece}
 use Rattle.std.specs.List.{position, position_or_len}
@@ -10,10 +10,7 @@ use Rattle.std.proofs.lemmas.List.{take_more}
 use Rattle.std.proofs.lemmas.List.Elements.{All-from_get_or, All-head, All-tail}
 use Rattle.std.proofs.lemmas.List.Quantifiers.{position-Some}
 use Rattle.std.proofs.lemmas.List.Sums.{fails_before_first}
-
--- no byte is a line's end, byte 10
-abbrev pub Endless : List ℕ → Type 0
-Endless xs = All (λ b. b ≢ 10) xs
+use Rattle.lines.specs.Reading.{Endless}
 
 no_end : (b : ℕ) → (b == 10) ≡ false → b ≢ 10
 no_end b f e = true≢false (sym (eq-eqb b 10 e) ∙ f)

@@ -137,9 +137,7 @@ mod tests {
     #[test]
     fn does_not_try_an_interrupted_read_again(rt: HostRuntime) {
         let mut line = Vec::new(rt.alloc());
-        match next_line(&mut Interrupted, 4, &mut line) {
-            Ok(_) => assert!(rt; false),
-            Err(error) => assert!(rt; error.kind() == io::ErrorKind::Interrupted),
-        }
+        let found = next_line(&mut Interrupted, 4, &mut line);
+        assert!(rt; found.is_err_and(|error| error.kind() == io::ErrorKind::Interrupted));
     }
 }

@@ -1,6 +1,6 @@
 use Rattle.std.proofs.Common.{◌≡◌, ◌≤◌, List, ℕ, length, nat_lt, take, vec_len}
 use Rattle.std.specs.Io.KnownBytes.{Consumes}
-use Rattle.lines.proofs.Kept.{Endless}
+use Rattle.lines.specs.Reading.{Endless}
 use Rattle.lines.proofs.reading.next_line.Given as goal
 
 -- the bytes that have come of the line, without its end, and what is kept of them
